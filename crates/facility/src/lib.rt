@@ -1,0 +1,24 @@
+mod component;
+mod element;
+mod fault;
+mod integer;
+mod message;
+mod request;
+mod value;
+mod values;
+mod window;
+mod write;
+
+pub use component::Answer;
+pub use component::Component;
+pub use component::Parameter;
+pub use component::Problem;
+pub use element::read_element;
+pub use fault::Cause;
+pub use fault::Fault;
+pub use fault::Layer;
+pub use message::Message;
+pub use request::Request;
+pub use request::RequestInvoke;
+pub use request::read_request;
+pub use write::Refusal;

@@ -1,0 +1,53 @@
+// Whether values are well structured, checked over a window of the octets that narrows to each nested value.
+use crate::value::is_constructed;
+use crate::value::read_value;
+
+// The octets still to be read: from `pos` up to `end`.
+#[derive(Clone, Copy)]
+pub(crate) struct Window {
+    pub(crate) pos: usize,
+    pub(crate) end: usize,
+}
+
+// Stands while the window is narrowed to a nested value. The outer end is restored when the value is left, also by a fault.
+struct Nested<'w> {
+    window: &'w mut Window,
+    outer: usize,
+}
+
+impl Drop for Nested<'_> {
+    fn drop(self) {
+        self.window.end = self.outer;
+        let Nested { window: _, outer: _ } = self;
+    }
+}
+
+// Passes over the value at the front of the window, or answers the place of the first badly structured value.
+pub(crate) fn check_value(octets: &[u8], window: &mut Window, levels: u8) -> Result<(), usize> {
+    let place = window.pos;
+    if levels == 0 {
+        return Err(place);
+    }
+    let Some((value, _)) = read_value(&octets[window.pos..window.end]) else {
+        return Err(place);
+    };
+    let size = value.len();
+    if is_constructed(value[0]) {
+        let outer = window.end;
+        window.pos = place + 2;
+        window.end = place + size;
+        let nested = Nested { window, outer };
+        check_list(octets, nested.window, levels - 1)?;
+    }
+    window.pos = place + size;
+    Ok(())
+}
+
+// Passes over all values of the window, or answers the place of the first badly structured one.
+pub(crate) fn check_list(octets: &[u8], window: &mut Window, levels: u8) -> Result<(), usize> {
+    if window.pos == window.end {
+        return Ok(());
+    }
+    check_value(octets, window, levels)?;
+    check_list(octets, window, levels)
+}
