@@ -84,10 +84,14 @@ impl Cause {
     }
 }
 
+fn reject(id: Option<i16>, problem: Problem) -> Component<'static> {
+    Component::Reject { id, problem }
+}
+
 impl Fault {
     // The message that the exchange answers with, if any: a FACILITY with a reject.
     pub fn reply(&self) -> Option<Message> {
         let (id, problem) = self.cause.problem()?;
-        facility(&Component::Reject { id, problem })
+        facility(reject(id, problem))
     }
 }

@@ -15,7 +15,7 @@ impl Message {
 }
 
 // A FACILITY message with the component; none where the component cannot be written into it.
-pub(crate) fn facility(component: &Component<'_>) -> Option<Message> {
+pub(crate) fn facility(component: Component<'_>) -> Option<Message> {
     let mut octets = [0; 23];
     octets[0] = 0x62;
     match component.write(&mut octets[1..]) {
