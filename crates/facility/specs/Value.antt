@@ -26,16 +26,21 @@ size xs = 2 + getD xs 1 0
 abbrev pub begins-with-value : List ℕ → Bool
 begins-with-value xs = leb 2 (length xs) && (is-short-tag (tag xs) && (leb (getD xs 1 0) 127 && leb (size xs) (length xs)))
 
--- the value at the front, the octets after it, and what the value contains
+-- the value at the front, and the octets after it
 abbrev pub front : List ℕ → List ℕ
 front xs = take (size xs) xs
 
 abbrev pub behind : List ℕ → List ℕ
 behind xs = drop (size xs) xs
 
+-- what the value at the front contains
 abbrev pub contents : List ℕ → List ℕ
 contents xs = drop 2 (front xs)
 
--- contents under a tag
+-- the octets are one value, whole, with the tag t
+abbrev pub is-tagged : ℕ → List ℕ → Bool
+is-tagged t xs = eqb (tag xs) t && eqb (size xs) (length xs)
+
+-- the value with the tag t and these contents
 abbrev pub tagged : ℕ → List ℕ → List ℕ
 tagged t xs = t ∷ length xs ∷ xs

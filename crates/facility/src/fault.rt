@@ -1,5 +1,7 @@
 // Why octets are no component, or no request, and at which octet.
 
+ghost use mathlib.Core.Path.{_≡_};
+ghost use Rattle.facility.specs.Faults.{cause-number, layer-of};
 use crate::component::Component;
 use crate::component::Problem;
 use crate::message::Message;
@@ -29,7 +31,7 @@ pub enum Cause {
     // a value is badly structured, or something stands behind the component
     Structure,
     // a value is not of the type that stands there
-    Type,
+    Mistyped,
     // the component is no invoke
     NoInvoke,
     // no such operation
@@ -46,7 +48,9 @@ pub struct Fault {
 }
 
 impl Cause {
-    pub fn number(self) -> u8 {
+    pub fn number(self) -> u8
+        ensures { λ r. ⌜ r ≡ cause-number self ⌝ }
+    {
         match self {
             Cause::Count => 11,
             Cause::Identifier => 12,
@@ -54,17 +58,19 @@ impl Cause {
             Cause::Profile => 14,
             Cause::Tag => 15,
             Cause::Structure => 16,
-            Cause::Type => 17,
+            Cause::Mistyped => 17,
             Cause::NoInvoke => 18,
             Cause::Operation { .. } => 18,
             Cause::Argument { .. } => 19,
         }
     }
 
-    pub fn layer(self) -> Layer {
+    pub fn layer(self) -> Layer
+        ensures { λ r. ⌜ r ≡ layer-of self ⌝ }
+    {
         match self {
             Cause::Count | Cause::Identifier | Cause::Length | Cause::Profile => Layer::Element,
-            Cause::Tag | Cause::Structure | Cause::Type => Layer::Component,
+            Cause::Tag | Cause::Structure | Cause::Mistyped => Layer::Component,
             Cause::NoInvoke | Cause::Operation { .. } | Cause::Argument { .. } => Layer::Argument,
         }
     }
@@ -76,7 +82,7 @@ impl Cause {
         match self {
             Cause::Tag => Some((None, Problem::General(0))),
             Cause::Structure => Some((None, Problem::General(2))),
-            Cause::Type => Some((None, Problem::General(1))),
+            Cause::Mistyped => Some((None, Problem::General(1))),
             Cause::Operation { id } => Some((Some(id), Problem::Invoke(1))),
             Cause::Argument { id } => Some((Some(id), Problem::Invoke(2))),
             _ => None,

@@ -15,7 +15,7 @@ pub(crate) struct Values<'a> {
 }
 
 fn mistyped(place: usize) -> Fault {
-    Fault { cause: Cause::Type, place }
+    Fault { cause: Cause::Mistyped, place }
 }
 
 impl<'a> Values<'a> {

@@ -1,4 +1,12 @@
 // Whether values are well structured, checked over a window of the octets that narrows to each nested value.
+ghost use mathlib.Core.Path.{_≡_};
+ghost use Prim.Native.Nat.{_≤_, _+_};
+ghost use lib.ListN.{length};
+ghost use Rattle.std.specs.Results.{Cases};
+ghost use Rattle.std.specs.Holes.{between};
+ghost use Rattle.std.specs.declared.option.Option.the-variants.{Some, None};
+ghost use Rattle.facility.specs.Structure.{bad-value, bad-list};
+ghost use Rattle.facility.specs.Value.{size};
 use crate::value::is_constructed;
 use crate::value::read_value;
 
@@ -16,14 +24,21 @@ struct Nested<'w> {
 }
 
 impl Drop for Nested<'_> {
-    fn drop(self) {
+    fn drop(self)
+        ensures { λ _. ⌜ now (self .exit .0) .end ≡ self .entry .outer ⌝ }
+        ensures { λ _. ⌜ now (self .exit .0) .pos ≡ now (self .entry .window) .pos ⌝ }
+    {
         self.window.end = self.outer;
         let Nested { window: _, outer: _ } = self;
     }
 }
 
 // Passes over the value at the front of the window, or answers the place of the first badly structured value.
-pub(crate) fn check_value(octets: &[u8], window: &mut Window, levels: u8) -> Result<(), usize> {
+pub(crate) fn check_value(octets: &[u8], window: &mut Window, levels: u8) -> Result<(), usize>
+    requires within { ⌜ now window .pos ≤ now window .end ⌝ ∗ ⌜ now window .end ≤ length (now octets) ⌝ }
+    ensures end { λ _. ⌜ now (window .exit) .end ≡ now (window .entry) .end ⌝ }
+    ensures checked { λ r. ⌜ Cases r (λ _. (bad-value levels (now (window .entry) .pos) (between (now (window .entry) .pos) (now (window .entry) .end) (now (octets .entry))) ≡ None) × ((now (window .exit) .pos ≡ now (window .entry) .pos + size (between (now (window .entry) .pos) (now (window .entry) .end) (now (octets .entry)))) × (now (window .exit) .pos ≤ now (window .entry) .end))) (λ place. bad-value levels (now (window .entry) .pos) (between (now (window .entry) .pos) (now (window .entry) .end) (now (octets .entry))) ≡ Some place) ⌝ }
+{
     let place = window.pos;
     if levels == 0 {
         return Err(place);
@@ -44,7 +59,11 @@ pub(crate) fn check_value(octets: &[u8], window: &mut Window, levels: u8) -> Res
 }
 
 // Passes over all values of the window, or answers the place of the first badly structured one.
-pub(crate) fn check_list(octets: &[u8], window: &mut Window, levels: u8) -> Result<(), usize> {
+pub(crate) fn check_list(octets: &[u8], window: &mut Window, levels: u8) -> Result<(), usize>
+    requires within { ⌜ now window .pos ≤ now window .end ⌝ ∗ ⌜ now window .end ≤ length (now octets) ⌝ }
+    ensures end { λ _. ⌜ now (window .exit) .end ≡ now (window .entry) .end ⌝ }
+    ensures checked { λ r. ⌜ Cases r (λ _. (bad-list levels (now (window .entry) .pos) (between (now (window .entry) .pos) (now (window .entry) .end) (now (octets .entry))) ≡ None) × (now (window .exit) .pos ≡ now (window .entry) .end)) (λ place. bad-list levels (now (window .entry) .pos) (between (now (window .entry) .pos) (now (window .entry) .end) (now (octets .entry))) ≡ Some place) ⌝ }
+{
     if window.pos == window.end {
         return Ok(());
     }

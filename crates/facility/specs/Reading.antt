@@ -1,0 +1,56 @@
+-- Reading an element: lower causes go first, over the whole element. Assumes nothing.
+use mathlib.Core.Bool.{Bool, cond, not, _&&_, _||_}
+use mathlib.Core.List.{List, _∷_}
+use Prim.Native.Nat.{ℕ, _+_}
+use lib.Dec.{eqb, leb, ltb}
+use lib.ListN.{length, getD, drop}
+use Rattle.std.specs.declared.option.Option.{Option}
+use Rattle.std.specs.declared.option.Option.the-variants.{Some, None}
+use Rattle.std.specs.declared.result.Result.{Result}
+use Rattle.std.specs.declared.result.Result.the-variants.{Ok, Err}
+use Rattle.facility.specs.declared.component.Component.{Component}
+use Rattle.facility.specs.declared.fault.Cause.the-variants.{Count, Identifier, Length, Profile, Tag, Structure}
+use Rattle.facility.specs.declared.fault.Fault.{Fault}
+use Rattle.facility.specs.Component.{Said, said}
+use Rattle.facility.specs.Faults.{at}
+use Rattle.facility.specs.Structure.{Part, or-else, bad-value, values}
+use Rattle.facility.specs.Typed.{an-invoke, a-result, an-error, a-reject}
+use Rattle.facility.specs.Value.{tag, size}
+
+-- the first fault of the component, which stands at place 3 and is the first of eight levels; or the first octet behind it
+unfoldable pub bad-component : List ℕ → Option ℕ
+bad-component xs = or-else (bad-value 8 3 xs) (cond (eqb (size xs) (length xs)) None (Some (3 + size xs)))
+
+-- the component by its tag, A1 to A4, and its values
+unfoldable pub by-tag : ℕ → ℕ → List Part → Result Said Fault
+by-tag t end vs =
+    cond (eqb t 0xa1) (an-invoke end vs)
+    (cond (eqb t 0xa2) (a-result end vs)
+    (cond (eqb t 0xa3) (an-error end vs)
+    (a-reject end vs)))
+
+-- the values of a component are read only where all are well structured
+abbrev pub structured : Option ℕ → Result Said Fault → Result Said Fault
+structured (Some place) typed = Err (at Structure place)
+structured None typed = typed
+
+-- the octets behind the head
+unfoldable pub reading-component : List ℕ → Result Said Fault
+reading-component xs =
+    cond (leb 0xa1 (tag xs) && leb (tag xs) 0xa4)
+    (structured (bad-component xs) (by-tag (tag xs) (3 + length xs) (values 5 (drop 2 xs))))
+    (Err (at Tag 3))
+
+-- an element: 1C, the number of octets after it, 91, and a component
+unfoldable pub reading : List ℕ → Result Said Fault
+reading xs =
+    cond (ltb (length xs) 3 || ltb 132 (length xs)) (Err (at Count (length xs)))
+    (cond (not (eqb (getD xs 0 0) 0x1c)) (Err (at Identifier 0))
+    (cond (not (eqb (getD xs 1 0 + 2) (length xs))) (Err (at Length 1))
+    (cond (not (eqb (getD xs 2 0) 0x91)) (Err (at Profile 2))
+    (reading-component (drop 3 xs)))))
+
+-- what was read, by what it says
+abbrev pub read-as : Result Component Fault → Result Said Fault
+read-as (Ok c) = Ok (said c)
+read-as (Err f) = Err f
