@@ -1,19 +1,19 @@
 -- One step of the check of structure, and what a window shows of the octets under it. Assumes nothing.
 use mathlib.Core.Path.{_≡_, refl, sym, ap, _∙_}
-use mathlib.Core.Bool.{true, false, cond}
+use mathlib.Core.Bool.{true, false, cond, _&&_}
 use mathlib.Core.List.{List, [], _∷_}
 use Prim.Native.Nat.{ℕ, zero, suc, _+_, _-_, _≤_, _<_}
 use native.Mathlib.Nat.{add-zero}
 use native.Mathlib.Omega.{arith}
+use lib.Dec.{leb}
 use lib.ListN.{length, getD, take, drop, length-take, length-drop}
 use Rattle.std.specs.Holes.{between}
 use Rattle.std.specs.declared.option.Option.{Option}
 use Rattle.std.specs.declared.option.Option.the-variants.{Some, None}
 use Rattle.std.proofs.shelf.Lists.{drop-take, drop-drop, take-take, length-take-le, getD-take}
-use Rattle.std.proofs.shelf.Tests.{cond-true, cond-false}
-use Rattle.std.proofs.shelf.Ways.{tells}
+use Rattle.std.proofs.shelf.Tests.{cond-true, cond-false, and-parts, and-from, leb-true, le-leb}
 use Rattle.facility.specs.Structure.{or-else, first-bad, bad-value, bad-list, Part, values-after, values}
-use Rattle.facility.specs.Value.{begins-with-value, is-constructed, tag, size, front, behind, contents}
+use Rattle.facility.specs.Value.{begins-with-value, is-short-tag, is-constructed, tag, size, front, behind, contents}
 
 -- octets that belong to the value before are passed over
 passes : (bad : ℕ → List ℕ → Option ℕ) (k p : ℕ) (xs : List ℕ) → first-bad bad k p xs ≡ first-bad bad 0 (p + k) (drop k xs)
@@ -112,9 +112,26 @@ list-first n p q xs h bad = list-step n p xs h ∙ ap (λ o. or-else o (bad-list
 pub list-later : (n p : ℕ) (xs : List ℕ) → 0 < length xs → bad-value n p xs ≡ None → bad-list n p xs ≡ bad-list n (p + size xs) (behind xs)
 list-later n p xs h well = list-step n p xs h ∙ ap (λ o. or-else o (bad-list n (p + size xs) (behind xs))) well
 
--- a value that is held whole is no longer than what holds it
+-- what it takes to begin with a value that is held whole
+pub record Whole (xs : List ℕ) : Type 0 where
+  pub two : 2 ≤ length xs
+  pub tag-short : is-short-tag (tag xs) ≡ true
+  pub length-short : getD xs 1 0 ≤ 127
+  pub held : size xs ≤ length xs
+
+pub whole-parts : (xs : List ℕ) → begins-with-value xs ≡ true → Whole xs
+whole-parts xs whole =
+    let a = and-parts (leb 2 (length xs)) (is-short-tag (tag xs) && (leb (getD xs 1 0) 127 && leb (size xs) (length xs))) whole in
+    let b = and-parts (is-short-tag (tag xs)) (leb (getD xs 1 0) 127 && leb (size xs) (length xs)) (a .1) in
+    let d = and-parts (leb (getD xs 1 0) 127) (leb (size xs) (length xs)) (b .1) in
+    record { two = leb-true _ _ (a .0); tag-short = b .0; length-short = leb-true _ _ (d .0); held = leb-true _ _ (d .1) }
+
+pub whole-from : (xs : List ℕ) → Whole xs → begins-with-value xs ≡ true
+whole-from xs w =
+    and-from _ _ (le-leb _ _ (w .two)) (and-from _ _ (w .tag-short) (and-from _ _ (le-leb _ _ (w .length-short)) (le-leb _ _ (w .held))))
+
 pub held-whole : (xs : List ℕ) → begins-with-value xs ≡ true → size xs ≤ length xs
-held-whole xs whole = grind (arith, tells)
+held-whole xs whole = whole-parts xs whole .held
 
 pub front-length : (xs : List ℕ) → begins-with-value xs ≡ true → length (front xs) ≡ size xs
 front-length xs whole = length-take-le (size xs) xs (held-whole xs whole)

@@ -4,4 +4,5 @@ pub mod Integer
 pub mod Component
 pub mod Faults
 pub mod Typed
+pub mod Cursor
 pub mod Reading

@@ -37,14 +37,14 @@ first read end [] = Err (at Mistyped end)
 first read end (v ∷ vs) = taken v vs (read v)
 
 -- no value is left
-abbrev pub nothing-more : {X : Type 0} → X × List Part → Result X Fault
-nothing-more (x, []) = Ok x
-nothing-more (x, v ∷ vs) = Err (at Mistyped (v .place))
+abbrev pub nothing-more : List Part → Result (Unit {0}) Fault
+nothing-more [] = Ok tt
+nothing-more (v ∷ vs) = Err (at Mistyped (v .place))
 
 -- nothing, or one value, read as it must be
 abbrev pub at-most-one : {X : Type 0} → (Part → Option X) → List Part → Result (Option X) Fault
 at-most-one read [] = Ok None
-at-most-one read (v ∷ vs) = and-then (first read 0 (v ∷ vs)) (λ r. and-then (nothing-more r) (λ x. Ok (Some x)))
+at-most-one read (v ∷ vs) = and-then (taken v vs (read v)) (λ one. and-then (nothing-more (one .1)) (λ _. Ok (Some (one .0))))
 
 -- a value of any type
 abbrev pub any : Part → Option Part
@@ -67,13 +67,16 @@ abbrev pub either : {X : Type 0} → Option X → Option X → Option X
 either (Some x) y = Some x
 either None y = y
 
--- 80 general, 81 invoke, 82 return result, 83 return error
+-- the problem that one value holds: 80 general, 81 invoke, 82 return result, 83 return error
+abbrev pub as-problem : List ℕ → Option Problem
+as-problem xs =
+    either (mapped problem.General (code-under 0x80 xs))
+    (either (mapped problem.Invoke (code-under 0x81 xs))
+    (either (mapped problem.ReturnResult (code-under 0x82 xs))
+    (mapped problem.ReturnError (code-under 0x83 xs))))
+
 abbrev pub a-problem : Part → Option Problem
-a-problem v =
-    either (mapped problem.General (code-under 0x80 (v .octets)))
-    (either (mapped problem.Invoke (code-under 0x81 (v .octets)))
-    (either (mapped problem.ReturnResult (code-under 0x82 (v .octets)))
-    (mapped problem.ReturnError (code-under 0x83 (v .octets)))))
+a-problem v = as-problem (v .octets)
 
 -- an INTEGER and one value, and nothing else
 abbrev pub integer-and-value : List Part → Option (ℤ × Part)
@@ -104,4 +107,4 @@ an-error end vs =
 abbrev pub a-reject : ℕ → List Part → Result Said Fault
 a-reject end vs =
     and-then (first integer-or-null end vs) (λ id. and-then (first a-problem end (id .1)) (λ why.
-    and-then (nothing-more why) (λ problem. Ok (reject (id .0) problem))))
+    and-then (nothing-more (why .1)) (λ _. Ok (reject (id .0) (why .0)))))

@@ -1,4 +1,12 @@
 // The values that follow one another in well-structured contents, taken one at a time by the type that must stand there.
+ghost use mathlib.Core.Path.{_≡_};
+ghost use mathlib.Core.List.{[], _∷_};
+ghost use Rattle.std.specs.Options.{Cases, mapped};
+ghost use Rattle.facility.specs.declared.fault.Cause.the-variants.{Mistyped};
+ghost use Rattle.facility.specs.Component.{part, answered};
+ghost use Rattle.facility.specs.Cursor.{left, end-of, Left, Well, Took, Last};
+ghost use Rattle.facility.specs.Faults.{at};
+ghost use Rattle.facility.specs.Typed.{nothing-more, at-most-one, any, an-integer, integer-or-null, as-problem, a-problem, an-answer};
 use crate::component::Answer;
 use crate::component::Parameter;
 use crate::component::Problem;
@@ -14,34 +22,53 @@ pub(crate) struct Values<'a> {
     pub(crate) place: usize,
 }
 
-fn mistyped(place: usize) -> Fault {
+fn mistyped(place: usize) -> Fault
+    ensures { λ r. ⌜ r ≡ at Mistyped place ⌝ }
+{
     Fault { cause: Cause::Mistyped, place }
 }
 
 impl<'a> Values<'a> {
-    // The value at the front, with what is left behind it; at fault where nothing is left.
-    fn next(self) -> Result<(Parameter<'a>, Values<'a>), Fault> {
-        let Some((octets, rest)) = read_value(self.rest) else {
-            return Err(mistyped(self.place));
-        };
+    // The value at the front, with what is left behind it; none where nothing is left.
+    fn next(self) -> Option<(Parameter<'a>, Values<'a>)>
+        requires { ⌜ Left self ⌝ }
+        ensures { λ r. ⌜ Cases r ((left (self .entry) ≡ []) × (self .entry .place ≡ end-of (self .entry))) (λ p. (left (self .entry) ≡ part (p .0) ∷ left (p .1)) × (Left (p .1)) × (end-of (p .1) ≡ end-of (self .entry)) × (Well (p .0))) ⌝ }
+    {
+        let (octets, rest) = read_value(self.rest)?;
         let place = self.place;
-        Ok((Parameter { octets, place }, Values { rest, place: place + octets.len() }))
+        Some((Parameter { octets, place }, Values { rest, place: place + octets.len() }))
     }
 
     // Nothing may be left.
-    pub(crate) fn end(self) -> Result<(), Fault> {
-        if self.rest.is_empty() { Ok(()) } else { Err(mistyped(self.place)) }
+    pub(crate) fn end(self) -> Result<(), Fault>
+        requires { ⌜ Left self ⌝ }
+        ensures { λ r. ⌜ r ≡ nothing-more (left (self .entry)) ⌝ }
+    {
+        match self.next() {
+            None => Ok(()),
+            Some((value, _)) => Err(mistyped(value.place)),
+        }
     }
 
-    pub(crate) fn integer(self) -> Result<(i16, Values<'a>), Fault> {
-        let (value, rest) = self.next()?;
+    pub(crate) fn integer(self) -> Result<(i16, Values<'a>), Fault>
+        requires { ⌜ Left self ⌝ }
+        ensures { λ r. ⌜ Took an-integer (self .entry) r ⌝ }
+    {
+        let Some((value, rest)) = self.next() else {
+            return Err(mistyped(self.place));
+        };
         let n = integer(value.octets).ok_or(mistyped(value.place))?;
         Ok((n, rest))
     }
 
     // An INTEGER, or NULL.
-    pub(crate) fn integer_or_null(self) -> Result<(Option<i16>, Values<'a>), Fault> {
-        let (value, rest) = self.next()?;
+    pub(crate) fn integer_or_null(self) -> Result<(Option<i16>, Values<'a>), Fault>
+        requires { ⌜ Left self ⌝ }
+        ensures { λ r. ⌜ Took integer-or-null (self .entry) r ⌝ }
+    {
+        let Some((value, rest)) = self.next() else {
+            return Err(mistyped(self.place));
+        };
         if let [0x05, 0x00] = value.octets {
             return Ok((None, rest));
         }
@@ -50,34 +77,45 @@ impl<'a> Values<'a> {
     }
 
     // At most one value more, of any type.
-    pub(crate) fn at_most_one(self) -> Result<Option<Parameter<'a>>, Fault> {
-        if self.rest.is_empty() {
+    pub(crate) fn at_most_one(self) -> Result<Option<Parameter<'a>>, Fault>
+        requires { ⌜ Left self ⌝ }
+        ensures { λ r. ⌜ Last part (at-most-one any (left (self .entry))) r ⌝ }
+    {
+        let Some((value, rest)) = self.next() else {
             return Ok(None);
-        }
-        let (value, rest) = self.next()?;
+        };
         rest.end()?;
         Ok(Some(value))
     }
 
-    pub(crate) fn problem(self) -> Result<(Problem, Values<'a>), Fault> {
-        let (value, rest) = self.next()?;
+    pub(crate) fn problem(self) -> Result<(Problem, Values<'a>), Fault>
+        requires { ⌜ Left self ⌝ }
+        ensures { λ r. ⌜ Took a-problem (self .entry) r ⌝ }
+    {
+        let Some((value, rest)) = self.next() else {
+            return Err(mistyped(self.place));
+        };
         let problem = problem(value.octets).ok_or(mistyped(value.place))?;
         Ok((problem, rest))
     }
 
     // Nothing, or a SEQUENCE of an INTEGER and one value.
-    pub(crate) fn answer(self) -> Result<Option<Answer<'a>>, Fault> {
-        if self.rest.is_empty() {
+    pub(crate) fn answer(self) -> Result<Option<Answer<'a>>, Fault>
+        requires { ⌜ Left self ⌝ }
+        ensures { λ r. ⌜ Last answered (at-most-one an-answer (left (self .entry))) r ⌝ }
+    {
+        let Some((value, rest)) = self.next() else {
             return Ok(None);
-        }
-        let (value, rest) = self.next()?;
+        };
         let answer = answer(value).ok_or(mistyped(value.place))?;
         rest.end()?;
         Ok(Some(answer))
     }
 }
 
-fn problem(value: &[u8]) -> Option<Problem> {
+fn problem(value: &[u8]) -> Option<Problem>
+    ensures { λ r. ⌜ r ≡ as-problem (now (value .entry)) ⌝ }
+{
     match value {
         [0x80, 0x01, code] => Some(Problem::General(*code)),
         [0x81, 0x01, code] => Some(Problem::Invoke(*code)),
@@ -87,7 +125,10 @@ fn problem(value: &[u8]) -> Option<Problem> {
     }
 }
 
-fn answer(sequence: Parameter<'_>) -> Option<Answer<'_>> {
+fn answer(sequence: Parameter<'_>) -> Option<Answer<'_>>
+    requires { ⌜ Well sequence ⌝ }
+    ensures { λ r. ⌜ mapped answered r ≡ an-answer (part (sequence .entry)) ⌝ }
+{
     let [0x30, _, contents @ ..] = sequence.octets else {
         return None;
     };
