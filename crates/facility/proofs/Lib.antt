@@ -1,2 +1,4 @@
 pub mod Nesting
 pub mod Taking
+pub mod Framing
+pub mod Numbers

@@ -5,16 +5,18 @@ use mathlib.Core.List.{List, [], _∷_}
 use mathlib.Core.Logic.{⊎-elim}
 use Prim.Native.Nat.{ℕ, zero, suc, _+_, _-_, _≤_, _<_}
 use native.Mathlib.Omega.{arith}
+use lib.Dec.{eqb}
 use lib.ListN.{length, getD, drop, length-drop}
 use Rattle.std.specs.declared.option.Option.{Option}
 use Rattle.std.specs.declared.option.Option.the-variants.{Some, None}
 use Rattle.std.proofs.shelf.Lists.{take-all, getD-take}
-use Rattle.std.proofs.shelf.Tests.{cond-true, cases-bool, both-ways}
+use Rattle.std.proofs.shelf.Tests.{cond-true, cases-bool, both-ways, and-parts, eqb-true}
 use Rattle.facility.specs.Structure.{or-else, bad-value, bad-list, Part, values}
-use Rattle.facility.specs.Value.{begins-with-value, is-short-tag, is-constructed, tag, size, front, behind, contents}
-use Rattle.facility.proofs.Nesting.{list-step, values-step, value-step, value-cut, no-level, whole-parts, whole-from, front-length, front-tag}
+use Rattle.facility.specs.Value.{begins-with-value, is-short-tag, is-constructed, is-tagged, tag, size, front, behind, contents}
+use Rattle.facility.proofs.Nesting.{list-step, values-step, value-step, value-cut, value-nested, no-level, whole-parts, whole-from, front-length, front-tag}
 
-both-none : (o later : Option ℕ) → or-else o later ≡ None → (o ≡ None) × (later ≡ None)
+-- the first of two places is none, and so is the second
+pub both-none : (o later : Option ℕ) → or-else o later ≡ None → (o ≡ None) × (later ≡ None)
 both-none None later h = (refl, h)
 both-none (Some p) later h = (h, let no : _≡_ {A = ℕ} 0 1 = cc in absurd (omega arith))
 
@@ -92,3 +94,13 @@ module _ (p : ℕ) (xs octets rest : List ℕ) (whole : begins-with-value xs ≡
   taken-well n well =
       let parts = well-parts n p xs some well in
       (ap (bad-value n p) is-front ∙ front-same n p xs whole ∙ parts .0, ap (λ m. bad-list n (p + m) rest) taken-length ∙ ap (bad-list n (p + size xs)) is-behind ∙ parts .1)
+
+-- the contents of a well-structured SEQUENCE are well structured
+pub sequence-well : (n p : ℕ) (xs : List ℕ) → bad-value n p xs ≡ None → is-tagged 0x30 xs ≡ true → bad-list (n - 1) (p + 2) (drop 2 xs) ≡ None
+sequence-well n p xs well tagged =
+    let parts = and-parts (eqb (tag xs) 0x30) (eqb (size xs) (length xs)) tagged in
+    let all : length xs ≤ size xs = omega (arith, eqb-true (size xs) (length xs) (parts .1)) in
+    let nested : is-constructed (tag xs) ≡ true = ap is-constructed (eqb-true (tag xs) 0x30 (parts .0)) in
+    ap (λ ys. bad-list (n - 1) (p + 2) (drop 2 ys)) (sym (take-all (size xs) xs all))
+    ∙ sym (value-nested n p xs (well-level n p xs well) (well-whole n p xs well) nested)
+    ∙ well

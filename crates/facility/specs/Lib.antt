@@ -6,3 +6,4 @@ pub mod Faults
 pub mod Typed
 pub mod Cursor
 pub mod Reading
+pub mod Writing

@@ -22,7 +22,7 @@ unfoldable pub bad-component : List ℕ → Option ℕ
 bad-component xs = or-else (bad-value 8 3 xs) (cond (eqb (size xs) (length xs)) None (Some (3 + size xs)))
 
 -- the component by its tag, A1 to A4, and its values
-unfoldable pub by-tag : ℕ → ℕ → List Part → Result Said Fault
+abbrev pub by-tag : ℕ → ℕ → List Part → Result Said Fault
 by-tag t end vs =
     cond (eqb t 0xa1) (an-invoke end vs)
     (cond (eqb t 0xa2) (a-result end vs)
@@ -34,21 +34,33 @@ abbrev pub structured : Option ℕ → Result Said Fault → Result Said Fault
 structured (Some place) typed = Err (at Structure place)
 structured None typed = typed
 
+-- A1 invoke, A2 return result, A3 return error, A4 reject
+abbrev pub is-component-tag : ℕ → Bool
+is-component-tag t = leb 0xa1 t && leb t 0xa4
+
 -- the octets behind the head
 unfoldable pub reading-component : List ℕ → Result Said Fault
 reading-component xs =
-    cond (leb 0xa1 (tag xs) && leb (tag xs) 0xa4)
+    cond (is-component-tag (tag xs))
     (structured (bad-component xs) (by-tag (tag xs) (3 + length xs) (values 5 (drop 2 xs))))
     (Err (at Tag 3))
 
--- an element: 1C, the number of octets after it, 91, and a component
+-- the fault of the head: from 3 to 132 octets, 1C, the number of octets after it, 91
+abbrev pub head-fault : List ℕ → Option Fault
+head-fault xs =
+    cond (ltb (length xs) 3 || ltb 132 (length xs)) (Some (at Count (length xs)))
+    (cond (not (eqb (getD xs 0 0) 0x1c)) (Some (at Identifier 0))
+    (cond (not (eqb (getD xs 1 0 + 2) (length xs))) (Some (at Length 1))
+    (cond (not (eqb (getD xs 2 0) 0x91)) (Some (at Profile 2))
+    None)))
+
+abbrev pub unless : Option Fault → Result Said Fault → Result Said Fault
+unless (Some fault) read = Err fault
+unless None read = read
+
+-- an element: a head, and a component behind it
 unfoldable pub reading : List ℕ → Result Said Fault
-reading xs =
-    cond (ltb (length xs) 3 || ltb 132 (length xs)) (Err (at Count (length xs)))
-    (cond (not (eqb (getD xs 0 0) 0x1c)) (Err (at Identifier 0))
-    (cond (not (eqb (getD xs 1 0 + 2) (length xs))) (Err (at Length 1))
-    (cond (not (eqb (getD xs 2 0) 0x91)) (Err (at Profile 2))
-    (reading-component (drop 3 xs)))))
+reading xs = unless (head-fault xs) (reading-component (drop 3 xs))
 
 -- what was read, by what it says
 abbrev pub read-as : Result Component Fault → Result Said Fault

@@ -1,4 +1,18 @@
 // The element layer, and the component that an element holds.
+ghost use mathlib.Core.Path.{_≡_};
+ghost use mathlib.Core.Bool.{true, false};
+ghost use Prim.Native.Nat.{_+_, _≤_};
+ghost use lib.ListN.{length, drop};
+ghost use Rattle.std.specs.Results.{Cases};
+ghost use Rattle.std.specs.declared.option.Option.the-variants.{Some, None};
+ghost use Rattle.std.specs.declared.result.Result.the-variants.{Err};
+ghost use Rattle.facility.specs.declared.fault.Cause.the-variants.{Structure};
+ghost use Rattle.facility.specs.Cursor.{left, end-of, Left};
+ghost use Rattle.facility.specs.Faults.{at};
+ghost use Rattle.facility.specs.Reading.{is-component-tag, bad-component, by-tag, head-fault, reading, read-as};
+ghost use Rattle.facility.specs.Structure.{values};
+ghost use Rattle.facility.specs.Typed.{an-invoke, a-result, an-error, a-reject};
+ghost use Rattle.facility.specs.Value.{tag};
 use crate::component::Component;
 use crate::fault::Cause;
 use crate::fault::Fault;
@@ -7,7 +21,9 @@ use crate::window::Window;
 use crate::window::check_value;
 
 // The octets behind the head 1C, length, 91: the component's place.
-fn behind_head(octets: &[u8]) -> Result<&[u8], Fault> {
+fn behind_head(octets: &[u8]) -> Result<&[u8], Fault>
+    ensures { λ r. ⌜ Cases r (λ s. (head-fault (now (octets .entry)) ≡ None) × (now s ≡ drop 3 (now (octets .entry)))) (λ f. head-fault (now (octets .entry)) ≡ Some f) ⌝ }
+{
     let [identifier, length, profile, component @ ..] = octets else {
         return Err(Fault { cause: Cause::Count, place: octets.len() });
     };
@@ -27,7 +43,10 @@ fn behind_head(octets: &[u8]) -> Result<&[u8], Fault> {
 }
 
 // Every value of the component is well structured, and nothing stands behind the component.
-fn check_structure(octets: &[u8]) -> Result<(), Fault> {
+fn check_structure(octets: &[u8]) -> Result<(), Fault>
+    requires { ⌜ 3 ≤ length (now octets) ⌝ }
+    ensures { λ r. ⌜ Cases r (λ _. bad-component (drop 3 (now (octets .entry))) ≡ None) (λ f. (bad-component (drop 3 (now (octets .entry))) ≡ Some (f .place)) × (f ≡ at Structure (f .place))) ⌝ }
+{
     let mut window = Window { pos: 3, end: octets.len() };
     if let Err(place) = check_value(octets, &mut window, 8) {
         return Err(Fault { cause: Cause::Structure, place });
@@ -38,14 +57,41 @@ fn check_structure(octets: &[u8]) -> Result<(), Fault> {
     Ok(())
 }
 
-pub fn read_element(octets: &[u8]) -> Result<Component<'_>, Fault> {
-    let component = behind_head(octets)?;
-    let [tag @ 0xa1..=0xa4, ..] = component else {
-        return Err(Fault { cause: Cause::Tag, place: 3 });
+// The component is an invoke, a return result, a return error or a reject.
+fn has_component_tag(component: &[u8]) -> bool
+    ensures { λ r. ⌜ r ≡ is-component-tag (tag (now (component .entry))) ⌝ }
+{
+    match component {
+        [tag, ..] => 0xa1 <= *tag && *tag <= 0xa4,
+        [] => false,
+    }
+}
+
+// The tag of a well-structured component, and the values behind its length.
+fn open_component(component: &[u8]) -> (u8, Values<'_>)
+    requires well { ⌜ bad-component (now component) ≡ None ⌝ }
+    requires nested { ⌜ is-component-tag (tag (now component)) ≡ true ⌝ }
+    requires within { ⌜ 3 + length (now component) ≤ 132 ⌝ }
+    ensures tag { λ r. ⌜ r .0 ≡ tag (now (component .entry)) ⌝ }
+    ensures left { λ r. ⌜ left (r .1) ≡ values 5 (drop 2 (now (component .entry))) ⌝ }
+    ensures end { λ r. ⌜ end-of (r .1) ≡ 3 + length (now (component .entry)) ⌝ }
+    ensures well { λ r. ⌜ Left (r .1) ⌝ }
+{
+    let [tag, _length, rest @ ..] = component else {
+        unreachable()
     };
-    check_structure(octets)?;
-    let values = Values { rest: &component[2..], place: 5 };
-    match *tag {
+    (*tag, Values { rest, place: 5 })
+}
+
+// What a well-structured component says.
+fn read_component(component: &[u8]) -> Result<Component<'_>, Fault>
+    requires well { ⌜ bad-component (now component) ≡ None ⌝ }
+    requires nested { ⌜ is-component-tag (tag (now component)) ≡ true ⌝ }
+    requires within { ⌜ 3 + length (now component) ≤ 132 ⌝ }
+    ensures { λ r. ⌜ read-as r ≡ by-tag (tag (now (component .entry))) (3 + length (now (component .entry))) (values 5 (drop 2 (now (component .entry)))) ⌝ }
+{
+    let (tag, values) = open_component(component);
+    match tag {
         0xa1 => invoke(values),
         0xa2 => return_result(values),
         0xa3 => return_error(values),
@@ -53,27 +99,50 @@ pub fn read_element(octets: &[u8]) -> Result<Component<'_>, Fault> {
     }
 }
 
-fn invoke(values: Values<'_>) -> Result<Component<'_>, Fault> {
+pub fn read_element(octets: &[u8]) -> Result<Component<'_>, Fault>
+    ensures { λ r. ⌜ read-as r ≡ reading (now (octets .entry)) ⌝ }
+{
+    let component = behind_head(octets)?;
+    if !has_component_tag(component) {
+        return Err(Fault { cause: Cause::Tag, place: 3 });
+    }
+    check_structure(octets)?;
+    read_component(component)
+}
+
+fn invoke(values: Values<'_>) -> Result<Component<'_>, Fault>
+    requires { ⌜ Left values ⌝ }
+    ensures { λ r. ⌜ read-as r ≡ an-invoke (end-of (values .entry)) (left (values .entry)) ⌝ }
+{
     let (id, rest) = values.integer()?;
     let (operation, rest) = rest.integer()?;
     let argument = rest.at_most_one()?;
     Ok(Component::Invoke { id, operation, argument })
 }
 
-fn return_result(values: Values<'_>) -> Result<Component<'_>, Fault> {
+fn return_result(values: Values<'_>) -> Result<Component<'_>, Fault>
+    requires { ⌜ Left values ⌝ }
+    ensures { λ r. ⌜ read-as r ≡ a-result (end-of (values .entry)) (left (values .entry)) ⌝ }
+{
     let (id, rest) = values.integer()?;
     let answer = rest.answer()?;
     Ok(Component::ReturnResult { id, answer })
 }
 
-fn return_error(values: Values<'_>) -> Result<Component<'_>, Fault> {
+fn return_error(values: Values<'_>) -> Result<Component<'_>, Fault>
+    requires { ⌜ Left values ⌝ }
+    ensures { λ r. ⌜ read-as r ≡ an-error (end-of (values .entry)) (left (values .entry)) ⌝ }
+{
     let (id, rest) = values.integer()?;
     let (error, rest) = rest.integer()?;
     let parameter = rest.at_most_one()?;
     Ok(Component::ReturnError { id, error, parameter })
 }
 
-fn reject(values: Values<'_>) -> Result<Component<'_>, Fault> {
+fn reject(values: Values<'_>) -> Result<Component<'_>, Fault>
+    requires { ⌜ Left values ⌝ }
+    ensures { λ r. ⌜ read-as r ≡ a-reject (end-of (values .entry)) (left (values .entry)) ⌝ }
+{
     let (id, rest) = values.integer_or_null()?;
     let (problem, rest) = rest.problem()?;
     rest.end()?;

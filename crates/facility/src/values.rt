@@ -1,12 +1,15 @@
 // The values that follow one another in well-structured contents, taken one at a time by the type that must stand there.
 ghost use mathlib.Core.Path.{_≡_};
+ghost use mathlib.Core.Bool.{true, false};
 ghost use mathlib.Core.List.{[], _∷_};
+ghost use lib.ListN.{drop};
 ghost use Rattle.std.specs.Options.{Cases, mapped};
 ghost use Rattle.facility.specs.declared.fault.Cause.the-variants.{Mistyped};
 ghost use Rattle.facility.specs.Component.{part, answered};
 ghost use Rattle.facility.specs.Cursor.{left, end-of, Left, Well, Took, Last};
 ghost use Rattle.facility.specs.Faults.{at};
 ghost use Rattle.facility.specs.Typed.{nothing-more, at-most-one, any, an-integer, integer-or-null, as-problem, a-problem, an-answer};
+ghost use Rattle.facility.specs.Value.{is-tagged};
 use crate::component::Answer;
 use crate::component::Parameter;
 use crate::component::Problem;
@@ -125,19 +128,29 @@ fn problem(value: &[u8]) -> Option<Problem>
     }
 }
 
-fn answer(sequence: Parameter<'_>) -> Option<Answer<'_>>
-    requires { ⌜ Well sequence ⌝ }
-    ensures { λ r. ⌜ mapped answered r ≡ an-answer (part (sequence .entry)) ⌝ }
+// What a SEQUENCE holds.
+fn sequence(value: &[u8]) -> Option<&[u8]>
+    ensures { λ r. ⌜ Cases r (is-tagged 0x30 (now (value .entry)) ≡ false) (λ s. (is-tagged 0x30 (now (value .entry)) ≡ true) × (now s ≡ drop 2 (now (value .entry)))) ⌝ }
 {
-    let [0x30, _, contents @ ..] = sequence.octets else {
+    match value {
+        [0x30, length, contents @ ..] if 2 + *length as usize == value.len() => Some(contents),
+        _ => None,
+    }
+}
+
+// A SEQUENCE of an INTEGER and one value.
+fn answer(value: Parameter<'_>) -> Option<Answer<'_>>
+    requires { ⌜ Well value ⌝ }
+    ensures { λ r. ⌜ mapped answered r ≡ an-answer (part (value .entry)) ⌝ }
+{
+    let rest = sequence(value.octets)?;
+    let values = Values { rest, place: value.place + 2 };
+    let Ok((operation, last)) = values.integer() else {
         return None;
     };
-    let values = Values { rest: contents, place: sequence.place + 2 };
-    let Ok((operation, rest)) = values.integer() else {
+    let Ok(found) = last.at_most_one() else {
         return None;
     };
-    let Ok(Some(parameter)) = rest.at_most_one() else {
-        return None;
-    };
+    let parameter = found?;
     Some(Answer { operation, parameter })
 }
