@@ -57,8 +57,8 @@ component-constructed t known =
     (λ n3. let e : t ≡ 0xa4 = omega arith in ap is-constructed e) (cases-eq t 0xa3)) (cases-eq t 0xa2)) (cases-eq t 0xa1)
 
 -- and they are well structured
-pub component-contents : (xs : List ℕ) → bad-component xs ≡ None → is-component-tag (tag xs) ≡ true → bad-list 7 5 (drop 2 xs) ≡ None
-component-contents xs well known =
+pub component-contents-well : (xs : List ℕ) → bad-component xs ≡ None → is-component-tag (tag xs) ≡ true → bad-list 7 5 (drop 2 xs) ≡ None
+component-contents-well xs well known =
     let parts = component-parts xs well in
     let all : length xs ≤ size xs = omega (arith, parts .1) in
     ap (λ ys. bad-list 7 5 (drop 2 ys)) (sym (take-all (size xs) xs all))

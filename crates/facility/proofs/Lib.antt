@@ -5,3 +5,4 @@ pub mod Numbers
 pub mod Inverting
 pub mod Lying
 pub mod Rewriting
+pub mod Rereading

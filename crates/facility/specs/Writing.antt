@@ -61,9 +61,12 @@ encoded s = tagged 0x1c (0x91 ∷ tagged (component-tag s) (component-contents s
 abbrev pub moved : ℕ → Part → Part
 moved p v = record { octets = v .octets; place = p }
 
+abbrev pub answer-moved : ℤ → ℤ × Part → ℤ × Part
+answer-moved id a = (a .0, moved (5 + (length (integer-octets id) + (2 + length (integer-octets (a .0))))) (a .1))
+
 abbrev pub placed : Said → Said
 placed (invoke id operation argument) = invoke id operation (mapped (moved (5 + (length (integer-octets id) + length (integer-octets operation)))) argument)
-placed (result id answer) = result id (mapped (λ a. (a .0, moved (5 + (length (integer-octets id) + (2 + length (integer-octets (a .0))))) (a .1))) answer)
+placed (result id answer) = result id (mapped (answer-moved id) answer)
 placed (error id code parameter) = error id code (mapped (moved (5 + (length (integer-octets id) + length (integer-octets code)))) parameter)
 placed (reject id why) = reject id why
 

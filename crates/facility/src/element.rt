@@ -4,15 +4,18 @@ ghost use mathlib.Core.Bool.{true, false};
 ghost use Prim.Native.Nat.{_+_, _≤_};
 ghost use lib.ListN.{length, drop};
 ghost use Rattle.std.specs.Results.{Cases};
+ghost use Rattle.std.specs.Vec.{made};
 ghost use Rattle.std.specs.declared.option.Option.the-variants.{Some, None};
 ghost use Rattle.std.specs.declared.result.Result.the-variants.{Err};
 ghost use Rattle.facility.specs.declared.fault.Cause.the-variants.{Structure};
+ghost use Rattle.facility.specs.Component.{said};
 ghost use Rattle.facility.specs.Cursor.{left, end-of, Left};
 ghost use Rattle.facility.specs.Faults.{at};
 ghost use Rattle.facility.specs.Reading.{is-component-tag, bad-component, by-tag, head-fault, reading, read-as};
 ghost use Rattle.facility.specs.Structure.{values};
 ghost use Rattle.facility.specs.Typed.{an-invoke, a-result, an-error, a-reject};
 ghost use Rattle.facility.specs.Value.{tag};
+ghost use Rattle.facility.specs.Writing.{encoded, placed};
 use crate::component::Component;
 use crate::fault::Cause;
 use crate::fault::Fault;
@@ -99,8 +102,10 @@ fn read_component(component: &[u8]) -> Result<Component<'_>, Fault>
     }
 }
 
+// The component that an element holds, or the element's first fault. A component writes back as the octets it was read from.
 pub fn read_element(octets: &[u8]) -> Result<Component<'_>, Fault>
-    ensures { λ r. ⌜ read-as r ≡ reading (now (octets .entry)) ⌝ }
+    ensures reads { λ r. ⌜ read-as r ≡ reading (now (octets .entry)) ⌝ }
+    ensures rewrites { λ r. ⌜ made r (λ c. (encoded (said c) ≡ now (octets .entry)) × (placed (said c) ≡ said c)) ⌝ }
 {
     let component = behind_head(octets)?;
     if !has_component_tag(component) {

@@ -6,7 +6,7 @@ use lib.ListN.{length, length-drop}
 use Rattle.std.proofs.shelf.Lists.{take-rest}
 use Rattle.std.proofs.shelf.Tests.{ltb-true}
 use Rattle.facility.specs.Structure.{bad-list, values}
-use Rattle.facility.proofs.Framing.{component-long, component-contents}
+use Rattle.facility.proofs.Framing.{component-long, component-contents-well}
 use Rattle.facility.proofs.element.open_component.Needs as need
 
 pub unreachable-requires : need.unreachable-requires
@@ -23,7 +23,7 @@ returns c =
       end = omega (arith, ap length same ∙ length-drop 2 xs, long);
       well = record {
         levels = 7;
-        well = ap (bad-list 7 5) same ∙ component-contents xs (c .pre .well) (c .pre .nested);
+        well = ap (bad-list 7 5) same ∙ component-contents-well xs (c .pre .well) (c .pre .nested);
         within = omega (arith, ap length same ∙ length-drop 2 xs, long, c .pre .within);
       };
     }

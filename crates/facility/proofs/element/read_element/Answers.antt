@@ -1,29 +1,50 @@
 use mathlib.Core.Path.{_≡_, sym, ap, _∙_}
+use mathlib.Core.List.{List}
+use Prim.Native.Nat.{ℕ, _<_}
+use lib.ListN.{getD}
+use mir.Syntax.{w8}
+use mir.Val.{Fits}
 use Rattle.std.specs.declared.option.Option.the-variants.{Some}
+use Rattle.std.specs.declared.result.Result.{Result}
 use Rattle.std.specs.declared.result.Result.the-variants.{Err}
+use Rattle.std.specs.shelf.Lists.{All}
+use Rattle.std.proofs.shelf.Elements.{all-from-getD}
 use Rattle.std.proofs.shelf.Results.{err-from-errBy}
 use Rattle.facility.specs.Reading.{bad-component}
 use Rattle.facility.proofs.Framing.{reading-head, reading-tag, reading-structure, reading-typed}
+use Rattle.facility.proofs.Rereading.{made-writes}
 use Rattle.facility.proofs.element.read_element.Needs as need
+
+-- each octet of a slice is below 256
+octets : (xs : List ℕ) → ((i : ℕ) → Fits w8 (getD xs i 0)) → All (λ x. x < 256) xs
+octets xs fits = all-from-getD (λ x. x < 256) xs 0 (λ i _. fits i .fits)
 
 pub returns-in-Break-component : need.returns-in-Break-component
 returns-in-Break-component c =
     let p = err-from-errBy (c .from-residual .result) (c .from-residual .ensures .1) in
-    rw (p .1, p .2) (sym (reading-head (c .args .octets .now) _ (c .in-Break-component .ensures tt)))
+    rw (p .1, p .2) (record { reads = sym (reading-head (c .args .octets .now) _ (c .in-Break-component .ensures tt)); rewrites = tt })
 
 pub returns-then-not-has-component-tag : need.returns-then-not-has-component-tag
 returns-then-not-has-component-tag c =
     let found = c .in-Continue-component .ensures tt in
-    sym (reading-tag (c .args .octets .now) (c .in-Continue-component .component .now) (found .0) (found .1) (sym (c .if-not-has-component-tag .ensures tt)))
+    record {
+      reads = sym (reading-tag (c .args .octets .now) (c .in-Continue-component .component .now) (found .0) (found .1) (sym (c .if-not-has-component-tag .ensures tt)));
+      rewrites = tt;
+    }
 
 pub returns-in-Break-check-structure : need.returns-in-Break-check-structure
 returns-in-Break-check-structure c =
     let p = err-from-errBy (c .from-residual-in-Break-check-structure .result) (c .from-residual-in-Break-check-structure .ensures .1) in
     let found = c .in-Continue-component .ensures tt in
     let bad = c .in-Break-check-structure .ensures tt in
-    rw (p .1, p .2) (ap Err (bad .1) ∙ sym (reading-structure (c .args .octets .now) (c .in-Continue-component .component .now) (found .0) (found .1) _ (sym (c .if-not-has-component-tag .ensures tt)) (ap bad-component (found .1) ∙ bad .0)))
+    rw (p .1, p .2) (record {
+      reads = ap Err (bad .1) ∙ sym (reading-structure (c .args .octets .now) (c .in-Continue-component .component .now) (found .0) (found .1) _ (sym (c .if-not-has-component-tag .ensures tt)) (ap bad-component (found .1) ∙ bad .0));
+      rewrites = tt;
+    })
 
 pub returns : need.returns
 returns c =
     let found = c .in-Continue-component .ensures tt in
-    c .read-component .ensures ∙ sym (reading-typed (c .args .octets .now) (c .in-Continue-component .component .now) (found .0) (found .1) (sym (c .if-not-has-component-tag .ensures tt)) (ap bad-component (found .1) ∙ c .in-Continue-check-structure .ensures tt))
+    let xs = c .args .octets .now in
+    let reads = c .read-component .ensures ∙ sym (reading-typed xs (c .in-Continue-component .component .now) (found .0) (found .1) (sym (c .if-not-has-component-tag .ensures tt)) (ap bad-component (found .1) ∙ c .in-Continue-check-structure .ensures tt)) in
+    record { reads = reads; rewrites = made-writes xs (c .read-component .result) (octets xs (c .typed .octets)) reads }
