@@ -71,7 +71,7 @@ unfolding reading
 reading-head xs f bad = ap (λ o. unless o (reading-component (drop 3 xs))) bad
 
 module _ (xs ys : List ℕ) (head : head-fault xs ≡ None) (is : ys ≡ drop 3 xs) where
-  behind-head : reading xs ≡ reading-component ys
+  pub behind-head : reading xs ≡ reading-component ys
   unfolding reading
   behind-head = ap (λ o. unless o (reading-component (drop 3 xs))) head ∙ ap reading-component (sym is)
 

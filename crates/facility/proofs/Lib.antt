@@ -6,3 +6,5 @@ pub mod Inverting
 pub mod Lying
 pub mod Rewriting
 pub mod Rereading
+pub mod Appending
+pub mod Encoding
