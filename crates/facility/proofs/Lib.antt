@@ -8,3 +8,4 @@ pub mod Rewriting
 pub mod Rereading
 pub mod Appending
 pub mod Encoding
+pub mod Returning

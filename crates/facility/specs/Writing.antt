@@ -4,6 +4,8 @@ use mathlib.Core.List.{List, [], _∷_, _++_}
 use Prim.Native.Nat.{ℕ, _+_, _<_}
 use lib.IntN.{ℤ}
 use lib.ListN.{length, take, drop}
+use mir.Syntax.{w16}
+use mir.Val.{SFits}
 use Rattle.std.specs.Options.{mapped}
 use Rattle.std.specs.declared.option.Option.{Option}
 use Rattle.std.specs.declared.option.Option.the-variants.{Some, None}
@@ -16,8 +18,8 @@ use Rattle.facility.specs.declared.write.Refusal.the-variants.{Unreadable, Sho
 use Rattle.facility.specs.Component.{Said, invoke, result, error, reject}
 use Rattle.facility.specs.Integer.{integer-octets}
 use Rattle.facility.specs.Reading.{reading}
-use Rattle.facility.specs.Structure.{Part}
-use Rattle.facility.specs.Value.{tagged}
+use Rattle.facility.specs.Structure.{Part, bad-value}
+use Rattle.facility.specs.Value.{size, tagged}
 
 -- a parameter that may be absent
 abbrev pub optional-octets : Option Part → List ℕ
@@ -73,6 +75,35 @@ placed (reject id why) = reject id why
 -- the octets of a component read as that component
 abbrev pub Readable : Said → Type 0
 Readable s = reading (encoded s) ≡ Ok (placed s)
+
+-- one well-structured value and nothing else, for which `levels` of nesting are left
+pub record One (levels : ℕ) (xs : List ℕ) : Type 0 where
+  pub well : bad-value levels 0 xs ≡ None
+  pub all : size xs ≡ length xs
+
+-- a parameter, if there is one, is one value
+abbrev pub Fit : ℕ → Option Part → Type 0
+Fit levels None = Unit {0}
+Fit levels (Some v) = One levels (v .octets)
+
+-- the parameter of a component is one value at its level: the second, or in a result's SEQUENCE the third
+abbrev pub Sound : Said → Type 0
+Sound (invoke id operation argument) = Fit 7 argument
+Sound (result id answer) = Fit 6 (mapped (λ a. a .1) answer)
+Sound (error id code parameter) = Fit 7 parameter
+Sound (reject id why) = Unit {0}
+
+-- what holds of a value, if there is one
+abbrev pub Each : {X : Type 0} → (X → Type 0) → Option X → Type 0
+Each P None = Unit {0}
+Each P (Some x) = P x
+
+-- ids, operations and errors are numbers of at most two octets
+abbrev pub Sized : Said → Type 0
+Sized (invoke id operation argument) = SFits w16 id × SFits w16 operation
+Sized (result id answer) = SFits w16 id × Each (λ a. SFits w16 (a .0)) answer
+Sized (error id code parameter) = SFits w16 id × SFits w16 code
+Sized (reject id why) = Each (λ n. SFits w16 n) id
 
 -- what writing answers, and what it leaves in the memory: the component's octets in front, and behind them what was there;
 -- or nothing is written, for a component that would not read, and then for memory that is too short
