@@ -9,3 +9,4 @@ pub mod Rereading
 pub mod Appending
 pub mod Encoding
 pub mod Returning
+pub mod Answering
