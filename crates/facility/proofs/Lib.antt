@@ -10,3 +10,5 @@ pub mod Appending
 pub mod Encoding
 pub mod Returning
 pub mod Answering
+pub mod ReadBack
+pub mod Putting

@@ -51,7 +51,7 @@ unless-parts : (o : Option Fault) (r : Result Said Fault) (s : Said) → unless 
 unless-parts None r s h = (refl, h)
 unless-parts (Some f) r s h = let no : _≡_ {A = ℕ} 0 1 = cc in absurd (omega arith)
 
-structured-parts : (o : Option ℕ) (r : Result Said Fault) (s : Said) → structured o r ≡ Ok s → (o ≡ None) × (r ≡ Ok s)
+pub structured-parts : (o : Option ℕ) (r : Result Said Fault) (s : Said) → structured o r ≡ Ok s → (o ≡ None) × (r ≡ Ok s)
 structured-parts None r s h = (refl, h)
 structured-parts (Some p) r s h = let no : _≡_ {A = ℕ} 0 1 = cc in absurd (omega arith)
 

@@ -7,3 +7,5 @@ pub mod Typed
 pub mod Cursor
 pub mod Reading
 pub mod Writing
+pub mod Layout
+pub mod Message

@@ -105,6 +105,11 @@ Sized (result id answer) = SFits w16 id × Each (λ a. SFits w16 (a .0)) answer
 Sized (error id code parameter) = SFits w16 id × SFits w16 code
 Sized (reject id why) = Each (λ n. SFits w16 n) id
 
+-- the number that each refusal carries
+abbrev pub refusal-number : Refusal → ℕ
+refusal-number Unreadable = 16
+refusal-number ShortMemory = 8
+
 -- what writing answers, and what it leaves in the memory: the component's octets in front, and behind them what was there;
 -- or nothing is written, for a component that would not read, and then for memory that is too short
 abbrev pub Written : Said → List ℕ → List ℕ → Result ℕ Refusal → Type 0

@@ -1,11 +1,13 @@
 // Why octets are no component, or no request, and at which octet.
 
 ghost use mathlib.Core.Path.{_≡_};
+ghost use Rattle.std.specs.Options.{mapped};
+ghost use Rattle.facility.specs.Component.{reject};
 ghost use Rattle.facility.specs.Faults.{cause-number, layer-of};
-use crate::component::Component;
+ghost use Rattle.facility.specs.Message.{message-octets, rejection, reply-octets};
 use crate::component::Problem;
 use crate::message::Message;
-use crate::message::facility;
+use crate::message::reject_message;
 
 // The layer of the protocol that is at fault.
 #[derive(Clone, Copy)]
@@ -78,7 +80,9 @@ impl Cause {
 
 impl Cause {
     // The invoke id and the problem of the reject that answers the cause; none for the element layer, and without an invoke.
-    fn problem(self) -> Option<(Option<i16>, Problem)> {
+    fn rejection(self) -> Option<(Option<i16>, Problem)>
+        ensures { λ r. ⌜ mapped (λ p. reject (p .0) (p .1)) r ≡ rejection self ⌝ }
+    {
         match self {
             Cause::Tag => Some((None, Problem::General(0))),
             Cause::Structure => Some((None, Problem::General(2))),
@@ -90,14 +94,12 @@ impl Cause {
     }
 }
 
-fn reject(id: Option<i16>, problem: Problem) -> Component<'static> {
-    Component::Reject { id, problem }
-}
-
 impl Fault {
     // The message that the exchange answers with, if any: a FACILITY with a reject.
-    pub fn reply(&self) -> Option<Message> {
-        let (id, problem) = self.cause.problem()?;
-        facility(reject(id, problem))
+    pub fn reply(&self) -> Option<Message>
+        ensures { λ r. ⌜ mapped message-octets r ≡ reply-octets (now (self .entry) .cause) ⌝ }
+    {
+        let (id, problem) = self.cause.rejection()?;
+        Some(reject_message(id, problem))
     }
 }

@@ -1,4 +1,18 @@
 // Writing a component into lent memory.
+ghost use mathlib.Core.Path.{_≡_};
+ghost use mathlib.Core.Bool.{true, false};
+ghost use mathlib.Core.List.{[], _∷_, _++_};
+ghost use Prim.Native.Nat.{_+_, _≤_};
+ghost use lib.ListN.{length as len, take, drop};
+ghost use mir.Syntax.{w16};
+ghost use mir.Val.{SFits};
+ghost use Rattle.std.specs.Options.{Cases, mapped};
+ghost use Rattle.std.specs.Orderings.{Decides};
+ghost use Rattle.facility.specs.Component.{part, said};
+ghost use Rattle.facility.specs.Integer.{integer-octets};
+ghost use Rattle.facility.specs.Layout.{held, Holds, Lays};
+ghost use Rattle.facility.specs.Writing.{optional-octets, id-octets, problem-octets, refusal-number, Each, One, Fit, Sound, Sized, Written};
+use crate::component::Answer;
 use crate::component::Component;
 use crate::component::Parameter;
 use crate::component::Problem;
@@ -16,7 +30,9 @@ pub enum Refusal {
 }
 
 impl Refusal {
-    pub fn number(self) -> u8 {
+    pub fn number(self) -> u8
+        ensures { λ r. ⌜ r ≡ refusal-number self ⌝ }
+    {
         match self {
             Refusal::Unreadable => 16,
             Refusal::ShortMemory => 8,
@@ -40,11 +56,16 @@ struct Layout<'a> {
     parameter: &'a [u8],
 }
 
-fn nothing() -> Short {
+fn nothing() -> Short
+    ensures { λ r. ⌜ Holds r [] ⌝ }
+{
     Short { octets: [0, 0, 0, 0, 0, 0], length: 0 }
 }
 
-fn short_integer(n: i16) -> Short {
+fn short_integer(n: i16) -> Short
+    ensures { λ r. ⌜ Holds r (integer-octets n) ⌝ }
+    ensures { λ r. ⌜ r .length ≡ len (integer-octets n) ⌝ }
+{
     let [high, low] = n.to_be_bytes();
     if is_short(n) {
         Short { octets: [0x02, 0x01, low, 0, 0, 0], length: 3 }
@@ -53,14 +74,19 @@ fn short_integer(n: i16) -> Short {
     }
 }
 
-fn short_id(id: Option<i16>) -> Short {
+fn short_id(id: Option<i16>) -> Short
+    ensures holds { λ r. ⌜ Holds r (id-octets id) ⌝ }
+    ensures sized { λ _. ⌜ Each (λ n. SFits w16 n) id ⌝ }
+{
     match id {
         Some(n) => short_integer(n),
         None => Short { octets: [0x05, 0x00, 0, 0, 0, 0], length: 2 },
     }
 }
 
-fn short_problem(problem: Problem) -> Short {
+fn short_problem(problem: Problem) -> Short
+    ensures { λ r. ⌜ Holds r (problem-octets problem) ⌝ }
+{
     let (tag, code) = match problem {
         Problem::General(code) => (0x80, code),
         Problem::Invoke(code) => (0x81, code),
@@ -71,32 +97,53 @@ fn short_problem(problem: Problem) -> Short {
 }
 
 // The head of a SEQUENCE that holds an operation and a parameter of `length` octets.
-fn short_sequence(operation: i16, length: u8) -> Short {
+fn short_sequence(operation: i16, length: u8) -> Short
+    requires { ⌜ length ≤ 129 ⌝ }
+    ensures { λ r. ⌜ Holds r (0x30 ∷ (len (integer-octets operation) + length) ∷ integer-octets operation) ⌝ }
+{
     let n = short_integer(operation);
     let [a, b, c, d, _, _] = n.octets;
-    Short { octets: [0x30, length + n.length as u8, a, b, c, d], length: 2 + n.length }
+    Short { octets: [0x30, n.length as u8 + length, a, b, c, d], length: 2 + n.length }
 }
 
-// The octets are one value, well structured, that may be nested `levels` deep, and of at most 127 octets.
-fn is_one_value(octets: &[u8], levels: u8) -> bool {
+// The octets are one value, well structured, for which `levels` of nesting are left.
+fn is_one_value(octets: &[u8], levels: u8) -> bool
+    ensures { λ r. ⌜ Decides r (One levels (now (octets .entry))) ⌝ }
+{
     let mut window = Window { pos: 0, end: octets.len() };
     match check_value(octets, &mut window, levels) {
-        Ok(()) => window.pos == window.end && window.end <= 127,
+        Ok(()) => window.pos == window.end,
         Err(_) => false,
     }
 }
 
 // The octets of a parameter that may be absent; none for one that is not one value.
-fn optional<'a>(parameter: Option<Parameter<'a>>) -> Option<&'a [u8]> {
+fn optional<'a>(parameter: Option<Parameter<'a>>) -> Option<&'a [u8]>
+    ensures { λ r. ⌜ Cases r (Fit 7 (mapped part (parameter .entry)) → ⊥) (λ s. Fit 7 (mapped part (parameter .entry)) × (now s ≡ optional-octets (mapped part (parameter .entry)))) ⌝ }
+{
     match parameter {
         None => Some(&[]),
         Some(value) => if is_one_value(value.octets, 7) { Some(value.octets) } else { None },
     }
 }
+// The head of an answer's SEQUENCE, with the operation, and the octets of its value; none for what is not one value.
+fn answered<'a>(answer: Answer<'a>) -> Option<(Short, &'a [u8])>
+    ensures laid { λ r. ⌜ Cases r (One 6 (answer .entry .parameter .octets .now) → ⊥) (λ p. One 6 (answer .entry .parameter .octets .now) × Holds (p .0) (0x30 ∷ (len (integer-octets (answer .entry .operation)) + len (answer .entry .parameter .octets .now)) ∷ integer-octets (answer .entry .operation)) × (now (p .1) ≡ answer .entry .parameter .octets .now)) ⌝ }
+    ensures sized { λ _. ⌜ SFits w16 (answer .entry .operation) ⌝ }
+{
+    let octets = answer.parameter.octets;
+    if !is_one_value(octets, 6) {
+        return None;
+    }
+    Some((short_sequence(answer.operation, octets.len() as u8), octets))
+}
 
 impl<'a> Component<'a> {
-    // The parts to be written; none for a component that would not read.
-    fn layout(&self) -> Option<Layout<'a>> {
+    // The parts to be written; none for a component whose parameter is not one value.
+    fn layout(&self) -> Option<Layout<'a>>
+        ensures laid { λ r. ⌜ Cases r (Sound (said (now (self .entry))) → ⊥) (λ l. Sound (said (now (self .entry))) × Lays l (said (now (self .entry)))) ⌝ }
+        ensures sized { λ _. ⌜ Sized (said (now (self .entry))) ⌝ }
+    {
         match *self {
             Component::Invoke { id, operation, argument } => {
                 let parameter = optional(argument)?;
@@ -106,12 +153,8 @@ impl<'a> Component<'a> {
                 Some(Layout { tag: 0xa2, id: short_integer(id), middle: nothing(), parameter: &[] })
             }
             Component::ReturnResult { id, answer: Some(answer) } => {
-                let octets = answer.parameter.octets;
-                if !is_one_value(octets, 6) {
-                    return None;
-                }
-                let middle = short_sequence(answer.operation, octets.len() as u8);
-                Some(Layout { tag: 0xa2, id: short_integer(id), middle, parameter: octets })
+                let (middle, parameter) = answered(answer)?;
+                Some(Layout { tag: 0xa2, id: short_integer(id), middle, parameter })
             }
             Component::ReturnError { id, error, parameter } => {
                 let parameter = optional(parameter)?;
@@ -123,7 +166,12 @@ impl<'a> Component<'a> {
         }
     }
 
-    pub fn write(&self, memory: &mut [u8]) -> Result<usize, Refusal> {
+    // Writes the element that holds the component into the front of the memory, and answers how many octets it has. A
+    // component that would not read back is refused, and then memory that is too short; nothing is written then.
+    pub fn write(&self, memory: &mut [u8]) -> Result<usize, Refusal>
+        ensures written { λ r. ⌜ Written (said (now (self .entry))) (now (memory .entry)) (now (memory .exit)) r ⌝ }
+        ensures sized { λ _. ⌜ Sized (said (now (self .entry))) ⌝ }
+    {
         let Some(layout) = self.layout() else {
             return Err(Refusal::Unreadable);
         };
@@ -143,7 +191,11 @@ impl<'a> Component<'a> {
 }
 
 // Writes the octets at a place, and answers the place behind them.
-fn put(memory: &mut [u8], at: usize, octets: &[u8]) -> usize {
+fn put(memory: &mut [u8], at: usize, octets: &[u8]) -> usize
+    requires { ⌜ at + len (now octets) ≤ len (now memory) ⌝ }
+    ensures place { λ r. ⌜ r ≡ at + len (now (octets .entry)) ⌝ }
+    ensures written { λ r. ⌜ now (memory .exit) ≡ take at (now (memory .entry)) ++ (now (octets .entry) ++ drop (at + len (now (octets .entry))) (now (memory .entry))) ⌝ }
+{
     let end = at + octets.len();
     memory[at..end].copy_from_slice(octets);
     end
