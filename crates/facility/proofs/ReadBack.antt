@@ -1,24 +1,29 @@
 -- Which components read back from their octets: those that are sound and not too long. Assumes nothing.
-use mathlib.Core.Path.{_≡_, refl, sym, ap, _∙_}
+use mathlib.Core.Path.{_≡_, refl, sym, ap, subst, _∙_}
 use mathlib.Core.List.{List, _++_}
 use Prim.Native.Nat.{ℕ, _+_, _≤_}
 use native.Mathlib.Omega.{arith}
+use lib.IntN.{ℤ}
 use lib.ListN.{length, length-append}
 use Rattle.std.specs.declared.option.Option.{Option}
-use Rattle.std.specs.declared.option.Option.the-variants.{None}
-use Rattle.std.specs.declared.result.Result.the-variants.{Ok}
+use Rattle.std.specs.declared.option.Option.the-variants.{Some, None}
+use Rattle.std.specs.declared.result.Result.the-variants.{Ok, Err}
 use Rattle.std.proofs.shelf.Lists.{length-take-le}
+use Rattle.facility.specs.declared.component.Problem.{Problem}
+use Rattle.facility.specs.declared.component.Problem.the-variants as problem
 use Rattle.facility.specs.declared.write.Layout.{Layout}
+use Rattle.facility.specs.declared.write.Refusal.{Refusal}
+use Rattle.facility.specs.declared.write.Refusal.the-variants.{Unreadable, ShortMemory}
 use Rattle.facility.specs.Component.{Said, invoke, result, error, reject}
 use Rattle.facility.specs.Layout.{held, Lays}
 use Rattle.facility.specs.Reading.{by-tag, structured}
 use Rattle.facility.specs.Structure.{Part, bad-list, values}
-use Rattle.facility.specs.Writing.{component-tag, component-contents, encoded, placed, Readable, One, Sound, Sized}
+use Rattle.facility.specs.Writing.{component-tag, component-contents, encoded, placed, id-octets, problem-octets, Readable, One, Sound, Sized, Written}
 use Rattle.facility.proofs.Answering.{result-reads, result-fit, reject-reads}
 use Rattle.facility.proofs.Encoding.{reading-encoded}
 use Rattle.facility.proofs.Nesting.{whole-parts}
 use Rattle.facility.proofs.Rereading.{head-parts, reads-parts, structured-parts}
-use Rattle.facility.proofs.Returning.{two-reads, two-fit}
+use Rattle.facility.proofs.Returning.{integer-long, two-reads, two-fit}
 use Rattle.facility.proofs.Taking.{well-whole}
 
 -- the contents are well structured, and say what the component says
@@ -64,3 +69,23 @@ lays-long l s i m lays =
     let g = length-take-le (l .id .length) (l .id .octets) (omega (arith, lays .few-id)) in
     let h = length-take-le (l .middle .length) (l .middle .octets) (omega (arith, lays .few-middle)) in
     omega arith
+
+-- a reject is never refused where there is room for twelve octets
+problem-long : (why : Problem) → length (problem-octets why) ≡ 3
+problem-long (problem.General code) = refl
+problem-long (problem.Invoke code) = refl
+problem-long (problem.ReturnResult code) = refl
+problem-long (problem.ReturnError code) = refl
+
+id-long : (id : Option ℤ) → length (id-octets id) ≤ 4
+id-long None = omega arith
+id-long (Some n) = integer-long n
+
+pub reject-fits : (s : Said) (id : Option ℤ) (why : Problem) → s ≡ reject id why → Sized s → (before after : List ℕ) (e : Refusal) → 12 ≤ length before → Written s before after (Err e) → ⊥
+reject-fits s id why is fits before after e room told = refused e (subst (λ y. Written y before after (Err e)) is told)
+  where
+  few : length (id-octets id ++ problem-octets why) ≤ 7
+  few = omega (arith, length-append (id-octets id) (problem-octets why), problem-long why, id-long id)
+  refused : (e : Refusal) → Written (reject id why) before after (Err e) → ⊥
+  refused Unreadable told = told .0 (readable-from (reject id why) (subst Sized is fits) tt (omega (arith, few)))
+  refused ShortMemory told = omega (arith, told .1, few)

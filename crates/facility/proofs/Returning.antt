@@ -32,12 +32,17 @@ use Rattle.facility.proofs.Nesting.{value-plain, no-values, empty-list, values
 use Rattle.facility.proofs.Numbers.{integer-reads}
 use Rattle.facility.proofs.Taking.{well-parts, well-whole}
 
--- an INTEGER is one value alone, and well
-few-octets : (z : ℤ) → length (cond (is-short z) (ofZ w8 z ∷ []) (ofZ w16 z / 256 ∷ ofZ w16 z % 256 ∷ [])) ≤ 127
-few-octets z = cond-both (is-short z) (ofZ w8 z ∷ []) (ofZ w16 z / 256 ∷ ofZ w16 z % 256 ∷ []) (λ l. length l ≤ 127) (λ _. omega arith) (λ _. omega arith)
+-- an INTEGER has at most four octets, is one value alone, and well
+few-octets : (z : ℤ) → length (cond (is-short z) (ofZ w8 z ∷ []) (ofZ w16 z / 256 ∷ ofZ w16 z % 256 ∷ [])) ≤ 2
+few-octets z = cond-both (is-short z) (ofZ w8 z ∷ []) (ofZ w16 z / 256 ∷ ofZ w16 z % 256 ∷ []) (λ l. length l ≤ 2) (λ _. omega arith) (λ _. omega arith)
+
+pub integer-long : (z : ℤ) → length (integer-octets z) ≤ 4
+integer-long z = omega (arith, few-octets z)
 
 pub integer-alone : (z : ℤ) → Alone (integer-octets z)
-integer-alone z = record { whole = tagged-whole 2 _ refl (few-octets z); all = omega arith }
+integer-alone z =
+    let few : length (cond (is-short z) (ofZ w8 z ∷ []) (ofZ w16 z / 256 ∷ ofZ w16 z % 256 ∷ [])) ≤ 127 = omega (arith, few-octets z) in
+    record { whole = tagged-whole 2 _ refl few; all = omega arith }
 
 pub integer-well : (n p : ℕ) (z : ℤ) → 0 < n → bad-value n p (integer-octets z) ≡ None
 integer-well n p z some = value-plain n p (integer-octets z) some (integer-alone z .whole) refl

@@ -9,3 +9,4 @@ pub mod Reading
 pub mod Writing
 pub mod Layout
 pub mod Message
+pub mod Requests
