@@ -12,3 +12,4 @@ pub mod Returning
 pub mod Answering
 pub mod ReadBack
 pub mod Putting
+pub mod Asking

@@ -8,13 +8,15 @@ use native.Mathlib.Omega.{arith}
 use lib.Dec.{eqb, leb}
 use lib.IntN.{ℤ}
 use lib.ListN.{length, getD, drop}
+use mir.Syntax.{w8}
+use mir.Val.{Fits}
 use Rattle.std.specs.Options.{mapped}
 use Rattle.std.specs.declared.option.Option.{Option}
 use Rattle.std.specs.declared.option.Option.the-variants.{Some, None}
 use Rattle.std.specs.declared.result.Result.{Result}
 use Rattle.std.specs.declared.result.Result.the-variants.{Ok, Err}
 use Rattle.std.specs.shelf.Lists.{All}
-use Rattle.std.proofs.shelf.Elements.{all-drop}
+use Rattle.std.proofs.shelf.Elements.{all-drop, all-from-getD}
 use Rattle.std.proofs.shelf.Lists.{drop-more, drop-all}
 use Rattle.std.proofs.shelf.Tests.{cond-true, cond-false, cases-bool, cases-eq, and-parts, eqb-true, eq-eqb, ne-eqb, leb-true}
 use Rattle.facility.specs.declared.component.Problem.{Problem}
@@ -34,6 +36,10 @@ use Rattle.facility.proofs.Taking.{sequence-well}
 -- octets are below 256
 abbrev pub Octets : List ℕ → Type 0
 Octets xs = All (λ x. x < 256) xs
+
+-- as they are in any slice
+pub octets-of-slice : (xs : List ℕ) → ((i : ℕ) → Fits w8 (getD xs i 0)) → Octets xs
+octets-of-slice xs fits = all-from-getD (λ x. x < 256) xs 0 (λ i _. fits i .fits)
 
 -- the component has these contents, with its parameter where it lies
 pub record Rewrites (s : Said) (vs : List Part) : Type 0 where
@@ -103,7 +109,7 @@ error-rewrites n end vs s lie all is =
     subst P (sym (t .3)) (refl, record { contents = t .4 .octets; same = ap (error (t .0) (t .1)) (t .4 .place) })
 
 -- one octet under a tag
-code-rewrites : (t : ℕ) (xs : List ℕ) (code : ℕ) → code-under t xs ≡ Some code → tagged t (code ∷ []) ≡ xs
+pub code-rewrites : (t : ℕ) (xs : List ℕ) (code : ℕ) → code-under t xs ≡ Some code → tagged t (code ∷ []) ≡ xs
 code-rewrites t xs code is =
     ⊎-elim
     (λ there.

@@ -2,12 +2,14 @@
 ghost use mathlib.Core.Path.{_≡_};
 ghost use Prim.Native.Nat.{_≤_};
 ghost use lib.ListN.{length};
+ghost use mir.Syntax.{w16};
+ghost use mir.Val.{SFits};
 ghost use Rattle.std.specs.Options.{mapped};
 ghost use Rattle.std.specs.Vec.{made};
 ghost use Rattle.std.specs.declared.option.Option.the-variants.{Some};
 ghost use Rattle.std.specs.declared.result.Result.the-variants.{Ok};
-ghost use Rattle.facility.specs.Component.{part};
-ghost use Rattle.facility.specs.Requests.{a-number, two-numbers, operation-of, asks, octets-in, argument-place, requesting, request-octets, Lawful};
+ghost use Rattle.facility.specs.Component.{part, said};
+ghost use Rattle.facility.specs.Requests.{a-number, two-numbers, operation-of, asks, octets-in, argument-place, requested, requesting, request-octets, Lawful};
 use crate::component::Component;
 use crate::component::Parameter;
 use crate::element::read_element;
@@ -124,13 +126,12 @@ fn place_of(argument: Option<Parameter<'_>>, end: usize) -> usize
     }
 }
 
-// The request that an element holds, or the first fault. Each request is made by one element, and by no other.
-pub fn read_request(octets: &[u8]) -> Result<RequestInvoke, Fault>
-    ensures reads { λ r. ⌜ r ≡ requesting (now (octets .entry)) ⌝ }
-    ensures only { λ r. ⌜ made r (λ a. Lawful a × (now (octets .entry) ≡ request-octets a)) ⌝ }
-    ensures every { λ r. ⌜ ((a : RequestInvoke) → Lawful a → now (octets .entry) ≡ request-octets a → r ≡ Ok a) ⌝ }
+// The request that a component makes, or why it makes none; `end` is the place behind the component.
+fn request_in(component: Component<'_>, end: usize) -> Result<RequestInvoke, Fault>
+    ensures asks { λ r. ⌜ r ≡ requested end (said (component .entry)) ⌝ }
+    ensures sized { λ r. ⌜ made r (λ a. SFits w16 (a .id)) ⌝ }
 {
-    let Component::Invoke { id, operation, argument } = read_element(octets)? else {
+    let Component::Invoke { id, operation, argument } = component else {
         return Err(Fault { cause: Cause::NoInvoke, place: 3 });
     };
     let Some(operation) = operation_of(operation) else {
@@ -138,6 +139,16 @@ pub fn read_request(octets: &[u8]) -> Result<RequestInvoke, Fault>
     };
     match asked(operation, argument) {
         Some(request) => Ok(RequestInvoke { id, request }),
-        None => Err(Fault { cause: Cause::Argument { id }, place: place_of(argument, octets.len()) }),
+        None => Err(Fault { cause: Cause::Argument { id }, place: place_of(argument, end) }),
     }
+}
+
+// The request that an element holds, or the first fault. Each request is made by one element, and by no other.
+pub fn read_request(octets: &[u8]) -> Result<RequestInvoke, Fault>
+    ensures reads { λ r. ⌜ r ≡ requesting (now (octets .entry)) ⌝ }
+    ensures only { λ r. ⌜ made r (λ a. Lawful a × (now (octets .entry) ≡ request-octets a)) ⌝ }
+    ensures every { λ r. ⌜ ((a : RequestInvoke) → Lawful a → now (octets .entry) ≡ request-octets a → r ≡ Ok a) ⌝ }
+{
+    let component = read_element(octets)?;
+    request_in(component, octets.len())
 }

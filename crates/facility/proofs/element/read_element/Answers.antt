@@ -1,23 +1,12 @@
 use mathlib.Core.Path.{_≡_, sym, ap, _∙_}
-use mathlib.Core.List.{List}
-use Prim.Native.Nat.{ℕ, _<_}
-use lib.ListN.{getD}
-use mir.Syntax.{w8}
-use mir.Val.{Fits}
 use Rattle.std.specs.declared.option.Option.the-variants.{Some}
-use Rattle.std.specs.declared.result.Result.{Result}
 use Rattle.std.specs.declared.result.Result.the-variants.{Err}
-use Rattle.std.specs.shelf.Lists.{All}
-use Rattle.std.proofs.shelf.Elements.{all-from-getD}
 use Rattle.std.proofs.shelf.Results.{err-from-errBy}
 use Rattle.facility.specs.Reading.{bad-component}
 use Rattle.facility.proofs.Framing.{reading-head, reading-tag, reading-structure, reading-typed}
 use Rattle.facility.proofs.Rereading.{made-writes}
+use Rattle.facility.proofs.Rewriting.{octets-of-slice}
 use Rattle.facility.proofs.element.read_element.Needs as need
-
--- each octet of a slice is below 256
-octets : (xs : List ℕ) → ((i : ℕ) → Fits w8 (getD xs i 0)) → All (λ x. x < 256) xs
-octets xs fits = all-from-getD (λ x. x < 256) xs 0 (λ i _. fits i .fits)
 
 pub returns-in-Break-component : need.returns-in-Break-component
 returns-in-Break-component c =
@@ -47,4 +36,4 @@ returns c =
     let found = c .in-Continue-component .ensures tt in
     let xs = c .args .octets .now in
     let reads = c .read-component .ensures ∙ sym (reading-typed xs (c .in-Continue-component .component .now) (found .0) (found .1) (sym (c .if-not-has-component-tag .ensures tt)) (ap bad-component (found .1) ∙ c .in-Continue-check-structure .ensures tt)) in
-    record { reads = reads; rewrites = made-writes xs (c .read-component .result) (octets xs (c .typed .octets)) reads }
+    record { reads = reads; rewrites = made-writes xs (c .read-component .result) (octets-of-slice xs (c .typed .octets)) reads }

@@ -1,16 +1,25 @@
+use mathlib.Core.Path.{ap, _∙_}
+use lib.ListN.{length}
+use Rattle.std.proofs.shelf.Results.{err-from-errBy}
+use Rattle.facility.specs.Requests.{requested}
+use Rattle.facility.specs.Typed.{and-then}
+use Rattle.facility.proofs.Asking.{request-every, request-only}
+use Rattle.facility.proofs.Rewriting.{octets-of-slice}
 use Rattle.facility.proofs.request.read_request.Needs as need
 
-pub returns-in-Break-id : need.returns-in-Break-id
-returns-in-Break-id c = ?
+pub returns-in-Break-component : need.returns-in-Break-component
+returns-in-Break-component c =
+    let p = err-from-errBy (c .from-residual .result) (c .from-residual .ensures .1) in
+    let xs = c .args .octets .now in
+    let reads = ap (λ r. and-then r (requested (length xs))) (c .in-Break-component .ensures tt .reads) in
+    rw (p .1, p .2) (record { reads = reads; only = tt; every = λ a lawful is. reads ∙ request-every xs a lawful is })
 
-pub returns-in-rest : need.returns-in-rest
-returns-in-rest c = ?
-
-pub returns-in-rest-operation-of : need.returns-in-rest-operation-of
-returns-in-rest-operation-of c = ?
-
-pub returns-in-Some-asked : need.returns-in-Some-asked
-returns-in-Some-asked c = ?
-
-pub returns-in-None : need.returns-in-None
-returns-in-None c = ?
+pub returns : need.returns
+returns c =
+    let xs = c .args .octets .now in
+    let reads = c .request-in .ensures .asks ∙ ap (λ r. and-then r (requested (length xs))) (c .in-Continue-component .ensures tt .reads) in
+    record {
+      reads = reads;
+      only = request-only xs (c .request-in .result) (octets-of-slice xs (c .typed .octets)) reads (c .request-in .ensures .sized);
+      every = λ a lawful is. reads ∙ request-every xs a lawful is;
+    }
