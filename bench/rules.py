@@ -12,7 +12,7 @@ MOST_LEVELS = 8
 MOST_CONTENTS = 127
 
 FACILITY_ELEMENT = 0x1C
-SUPPLEMENTARY_SERVICES = 0x91
+REMOTE_OPERATIONS = 0x91
 INVOKE, RESULT, ERROR, REJECT = 0xA1, 0xA2, 0xA3, 0xA4
 INTEGER, NULL, SEQUENCE = 0x02, 0x05, 0x30
 PROBLEMS = {0x80: "general", 0x81: "invoke", 0x82: "result", 0x83: "error"}
@@ -76,7 +76,7 @@ def check_element(octets):
         raise Fault(12, 0)
     if octets[1] != len(octets) - 2:
         raise Fault(13, 1)
-    if octets[2] != SUPPLEMENTARY_SERVICES:
+    if octets[2] != REMOTE_OPERATIONS:
         raise Fault(14, 2)
 
 
