@@ -19,27 +19,27 @@ use Rattle.std.specs.Vec.{made}
 use Rattle.std.proofs.shelf.Lists.{take-append-drop}
 use Rattle.std.proofs.shelf.Tests.{cond-true, cond-false, cases-bool, and-parts, and-from, leb-true, le-leb}
 use Rattle.std.proofs.shelf.Ways.{tells}
-use Rattle.facility.specs.declared.fault.Fault.{Fault}
+use Rattle.components.specs.declared.fault.Fault.{Fault}
 use Rattle.facility.specs.declared.request.Operation.{Operation}
 use Rattle.facility.specs.declared.request.Operation.the-variants as operation
 use Rattle.facility.specs.declared.request.Request.{Request}
 use Rattle.facility.specs.declared.request.Request.the-variants as request
 use Rattle.facility.specs.declared.request.RequestInvoke.{RequestInvoke}
-use Rattle.facility.specs.Component.{Said, invoke, result, error, reject}
-use Rattle.facility.specs.Integer.{integer-octets}
-use Rattle.facility.specs.Reading.{reading}
+use Rattle.components.specs.Component.{Said, invoke, result, error, reject}
+use Rattle.ber.specs.Integer.{integer-octets}
+use Rattle.components.specs.Reading.{reading}
 use Rattle.facility.specs.Requests.{number-octets, a-number, both, two-numbers, operation-of, asks, octets-in, asked, by-operation, requested, requesting, request-code, request-argument, request-octets, InRange, Lawful}
-use Rattle.facility.specs.Structure.{Part, first-bad, bad-value}
-use Rattle.facility.specs.Typed.{and-then, code-under}
-use Rattle.facility.specs.Value.{is-tagged, tagged}
-use Rattle.facility.specs.Writing.{optional-octets, component-contents, encoded, placed, moved, Readable, One, Fit, Each}
-use Rattle.facility.proofs.Inverting.{then-parts}
-use Rattle.facility.proofs.Nesting.{value-plain}
-use Rattle.facility.proofs.Numbers.{tagged-is}
-use Rattle.facility.proofs.ReadBack.{readable-from}
-use Rattle.facility.proofs.Rereading.{read-writes}
-use Rattle.facility.proofs.Returning.{integer-long}
-use Rattle.facility.proofs.Rewriting.{Octets, code-rewrites}
+use Rattle.ber.specs.Structure.{Part, first-bad, bad-value}
+use Rattle.components.specs.Typed.{and-then, code-under}
+use Rattle.ber.specs.Value.{is-tagged, tagged}
+use Rattle.components.specs.Writing.{optional-octets, component-contents, encoded, placed, moved, Readable, One, Fit, Each}
+use Rattle.components.proofs.Inverting.{then-parts}
+use Rattle.ber.proofs.Nesting.{value-plain}
+use Rattle.ber.proofs.Numbers.{tagged-is}
+use Rattle.components.proofs.ReadBack.{readable-from}
+use Rattle.components.proofs.Rereading.{read-writes}
+use Rattle.components.proofs.Returning.{integer-long}
+use Rattle.components.proofs.Rewriting.{Octets, code-rewrites}
 
 -- a number reads as itself
 number-reads : (n : ℕ) → n ≤ 127 → a-number (number-octets n) ≡ Some n

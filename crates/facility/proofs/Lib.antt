@@ -1,15 +1,1 @@
-pub mod Nesting
-pub mod Taking
-pub mod Framing
-pub mod Numbers
-pub mod Inverting
-pub mod Lying
-pub mod Rewriting
-pub mod Rereading
-pub mod Appending
-pub mod Encoding
-pub mod Returning
-pub mod Answering
-pub mod ReadBack
-pub mod Putting
 pub mod Asking

@@ -1,12 +1,1 @@
-pub mod Value
-pub mod Structure
-pub mod Integer
-pub mod Component
-pub mod Faults
-pub mod Typed
-pub mod Cursor
-pub mod Reading
-pub mod Writing
-pub mod Layout
-pub mod Message
 pub mod Requests

@@ -13,21 +13,21 @@ use Rattle.std.specs.declared.option.Option.{Option}
 use Rattle.std.specs.declared.option.Option.the-variants.{Some, None}
 use Rattle.std.specs.declared.result.Result.{Result}
 use Rattle.std.specs.declared.result.Result.the-variants.{Ok, Err}
-use Rattle.facility.specs.declared.fault.Cause.the-variants as cause
-use Rattle.facility.specs.declared.fault.Fault.{Fault}
+use Rattle.components.specs.declared.fault.Cause.the-variants as cause
+use Rattle.components.specs.declared.fault.Fault.{Fault}
 use Rattle.facility.specs.declared.request.Operation.{Operation}
 use Rattle.facility.specs.declared.request.Operation.the-variants as operation
 use Rattle.facility.specs.declared.request.Request.{Request}
 use Rattle.facility.specs.declared.request.Request.the-variants as request
 use Rattle.facility.specs.declared.request.RequestInvoke.{RequestInvoke}
-use Rattle.facility.specs.Component.{Said, invoke, result, error, reject}
-use Rattle.facility.specs.Faults.{at}
-use Rattle.facility.specs.Integer.{integer-octets}
-use Rattle.facility.specs.Reading.{reading}
-use Rattle.facility.specs.Structure.{Part}
-use Rattle.facility.specs.Value.{is-tagged, tagged}
-use Rattle.facility.specs.Typed.{and-then}
-use Rattle.facility.specs.Writing.{encoded, Each}
+use Rattle.components.specs.Component.{Said, invoke, result, error, reject}
+use Rattle.components.specs.Faults.{at}
+use Rattle.ber.specs.Integer.{integer-octets}
+use Rattle.components.specs.Reading.{reading}
+use Rattle.ber.specs.Structure.{Part}
+use Rattle.ber.specs.Value.{is-tagged, tagged}
+use Rattle.components.specs.Typed.{and-then}
+use Rattle.components.specs.Writing.{encoded, Each}
 
 -- a number of an argument: an INTEGER of one octet, from 0 to 127
 abbrev pub number-octets : ℕ → List ℕ

@@ -8,14 +8,14 @@ ghost use Rattle.std.specs.Options.{mapped};
 ghost use Rattle.std.specs.Vec.{made};
 ghost use Rattle.std.specs.declared.option.Option.the-variants.{Some};
 ghost use Rattle.std.specs.declared.result.Result.the-variants.{Ok};
-ghost use Rattle.facility.specs.Component.{part, said};
+ghost use Rattle.components.specs.Component.{part, said};
 ghost use Rattle.facility.specs.Requests.{a-number, two-numbers, operation-of, asks, octets-in, argument-place, requested, requesting, request-octets, Lawful};
-use crate::component::Component;
-use crate::component::Parameter;
-use crate::element::read_element;
-use crate::fault::Cause;
-use crate::fault::Fault;
-use crate::integer::integer_size;
+use ber::integer_size;
+use components::Cause;
+use components::Component;
+use components::Fault;
+use components::Parameter;
+use components::read_element;
 
 #[derive(Clone, Copy)]
 pub enum Request {

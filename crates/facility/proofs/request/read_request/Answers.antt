@@ -2,9 +2,9 @@ use mathlib.Core.Path.{ap, _∙_}
 use lib.ListN.{length}
 use Rattle.std.proofs.shelf.Results.{err-from-errBy}
 use Rattle.facility.specs.Requests.{requested}
-use Rattle.facility.specs.Typed.{and-then}
+use Rattle.components.specs.Typed.{and-then}
 use Rattle.facility.proofs.Asking.{request-every, request-only}
-use Rattle.facility.proofs.Rewriting.{octets-of-slice}
+use Rattle.components.proofs.Rewriting.{octets-of-slice}
 use Rattle.facility.proofs.request.read_request.Needs as need
 
 pub returns-in-Break-component : need.returns-in-Break-component

@@ -1,0 +1,5 @@
+pub mod Nesting
+pub mod Taking
+pub mod Lying
+pub mod Appending
+pub mod Numbers

@@ -1,0 +1,9 @@
+pub mod Framing
+pub mod Inverting
+pub mod Rewriting
+pub mod Rereading
+pub mod Encoding
+pub mod Returning
+pub mod Answering
+pub mod ReadBack
+pub mod Putting

@@ -1,6 +1,0 @@
-use borrow.Author.Needs.{needs}
-use mathlib.Core.List.{append-nil}
-use Rattle.facility.proofs.component.Component.layout.Needs as need
-
-pub returns-in-Reject : need.returns-in-Reject
-returns-in-Reject c = search (needs, append-nil)
