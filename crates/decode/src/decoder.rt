@@ -1,0 +1,75 @@
+// Cuts input into lines, and answers each.
+use crate::account::push_account;
+use crate::hex::Content;
+use crate::hex::read_octets;
+use std::alloc::AllocError;
+use std::alloc::Global;
+
+// The line that goes on behind the input so far, memory for a line's octets, and the answers that are not yet written.
+#[derive(Drop)]
+pub struct Decoder {
+    line: Vec<u8>,
+    octets: Vec<u8>,
+    answers: Vec<u8>,
+}
+
+// How many bytes stand before the first line feed, or in all where there is none.
+fn line_length(bytes: &[u8]) -> usize {
+    for (i, byte) in bytes.iter().enumerate() {
+        if *byte == b'\n' {
+            return i;
+        }
+    }
+    bytes.len()
+}
+
+fn answer(line: &[u8], octets: &mut Vec<u8>, answers: &mut Vec<u8>) -> Result<(), AllocError> {
+    match read_octets(line, octets)? {
+        Content::Blank => Ok(()),
+        Content::Octets => push_account(answers, octets.as_slice()),
+        Content::NotOctets => answers.extend_from_slice(b"not octets\n"),
+    }
+}
+
+impl Decoder {
+    pub fn new(heap: Global) -> Decoder {
+        Decoder { line: Vec::new(heap), octets: Vec::new(heap), answers: Vec::new(heap) }
+    }
+
+    // Answers each line that ends in the block, and keeps the one that goes on.
+    pub fn take_block(&mut self, block: &[u8]) -> Result<(), AllocError> {
+        let mut rest = block;
+        loop {
+            let end = line_length(rest);
+            if end == rest.len() {
+                return self.line.extend_from_slice(rest);
+            }
+            self.end_line(&rest[0..end])?;
+            rest = &rest[end + 1..];
+        }
+    }
+
+    // Answers the line that ends with these bytes.
+    fn end_line(&mut self, bytes: &[u8]) -> Result<(), AllocError> {
+        if self.line.is_empty() {
+            return answer(bytes, &mut self.octets, &mut self.answers);
+        }
+        self.line.extend_from_slice(bytes)?;
+        self.end()
+    }
+
+    // Answers the line that the input ends with.
+    pub fn end(&mut self) -> Result<(), AllocError> {
+        answer(self.line.as_slice(), &mut self.octets, &mut self.answers)?;
+        self.line.clear();
+        Ok(())
+    }
+
+    pub fn answers(&self) -> &[u8] {
+        self.answers.as_slice()
+    }
+
+    pub fn forget_answers(&mut self) {
+        self.answers.clear();
+    }
+}

@@ -1,0 +1,55 @@
+// Decodes lines of hex pairs: each is a Facility element, and is answered by what the element says, or by its fault.
+mod account;
+mod decoder;
+mod figures;
+mod hex;
+
+use decoder::Decoder;
+use std::io;
+use std::io::ErrorKind;
+use std::io::Read;
+use std::io::Stdin;
+use std::io::Write;
+
+const BLOCK: usize = 65536;
+
+// Reads a block of input; nothing where the input ends, and for an interrupted read.
+fn read_block(input: &mut Stdin, block: &mut [u8]) -> io::Result<Option<usize>> {
+    match input.read(block) {
+        Ok(n) => Ok(Some(n)),
+        Err(e) => if e.kind() == ErrorKind::Interrupted { Ok(None) } else { Err(e) },
+    }
+}
+
+// Writes the answers, and makes room for more.
+fn write_answers(rt: &LibcRuntime, decoder: &mut Decoder) -> io::Result<()> {
+    rt.stdout().write_all(decoder.answers())?;
+    decoder.forget_answers();
+    Ok(())
+}
+
+fn run(rt: &LibcRuntime) -> io::Result<()> {
+    let mut block = vec![in rt.alloc(); 0; BLOCK]?;
+    let mut decoder = Decoder::new(rt.alloc());
+    let mut input = rt.stdin();
+    for _ in 0..u64::MAX {
+        let Some(n) = read_block(&mut input, &mut block)? else {
+            continue;
+        };
+        if n == 0 {
+            break;
+        }
+        decoder.take_block(&block[0..n])?;
+        write_answers(rt, &mut decoder)?;
+    }
+    decoder.end()?;
+    write_answers(rt, &mut decoder)
+}
+
+fn main(rt: LibcRuntime) -> io::Result<()> {
+    let result = run(&rt);
+    if let Err(e) = &result {
+        let _ = eprintln!(rt, "decode: {e}");
+    }
+    result
+}
