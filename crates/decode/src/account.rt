@@ -1,7 +1,13 @@
 // What is said of a component, a request and a fault, appended to an output.
+ghost use mathlib.Core.List.{_++_};
+ghost use mathlib.Core.Path.{_≡_};
+ghost use Rattle.std.specs.Of.Vec.{vec-items};
+ghost use Rattle.std.specs.Written.{decimal, signed};
+ghost use Rattle.decode.specs.Wording.{Adds, parameter-text, answer-text, id-text, problem-text, component-text, request-text, layer-text, fault-text, reply-text};
 use crate::figures::push_number;
 use crate::figures::push_pairs;
 use crate::figures::push_signed;
+use facility::Answer;
 use facility::Component;
 use facility::Fault;
 use facility::Layer;
@@ -12,11 +18,31 @@ use facility::read_element;
 use facility::read_request;
 use std::alloc::AllocError;
 
-fn push_word(out: &mut Vec<u8>, word: &str) -> Result<(), AllocError> {
+fn push_word(out: &mut Vec<u8>, word: &str) -> Result<(), AllocError>
+    ensures { λ r. ⌜ Adds r (vec-items (now (out .entry))) (vec-items (now (out .exit))) (now (word .entry)) ⌝ }
+{
     out.extend_from_slice(word.as_bytes())
 }
 
-fn push_parameter(out: &mut Vec<u8>, parameter: Option<Parameter<'_>>) -> Result<(), AllocError> {
+// A word and a number from 0 to 255.
+fn push_named(out: &mut Vec<u8>, word: &str, n: u8) -> Result<(), AllocError>
+    ensures { λ r. ⌜ Adds r (vec-items (now (out .entry))) (vec-items (now (out .exit))) (now (word .entry) ++ decimal n) ⌝ }
+{
+    push_word(out, word)?;
+    push_number(out, usize::from(n))
+}
+
+// A word and a number that may be negative.
+fn push_code(out: &mut Vec<u8>, word: &str, n: i16) -> Result<(), AllocError>
+    ensures { λ r. ⌜ Adds r (vec-items (now (out .entry))) (vec-items (now (out .exit))) (now (word .entry) ++ signed n) ⌝ }
+{
+    push_word(out, word)?;
+    push_signed(out, n)
+}
+
+fn push_parameter(out: &mut Vec<u8>, parameter: Option<Parameter<'_>>) -> Result<(), AllocError>
+    ensures { λ r. ⌜ Adds r (vec-items (now (out .entry))) (vec-items (now (out .exit))) (parameter-text (parameter .entry)) ⌝ }
+{
     let Some(Parameter { octets, place }) = parameter else {
         return Ok(());
     };
@@ -26,48 +52,66 @@ fn push_parameter(out: &mut Vec<u8>, parameter: Option<Parameter<'_>>) -> Result
     push_number(out, place)
 }
 
-fn push_id(out: &mut Vec<u8>, id: Option<i16>) -> Result<(), AllocError> {
+fn push_answer(out: &mut Vec<u8>, answer: Option<Answer<'_>>) -> Result<(), AllocError>
+    ensures { λ r. ⌜ Adds r (vec-items (now (out .entry))) (vec-items (now (out .exit))) (answer-text (answer .entry)) ⌝ }
+{
+    let Some(
+        Answer {
+            operation,
+            parameter,
+        },
+    ) = answer
+    else {
+        return Ok(());
+    };
+    push_code(out, " operation ", operation)?;
+    push_parameter(out, Some(parameter))
+}
+
+fn push_id(out: &mut Vec<u8>, id: Option<i16>) -> Result<(), AllocError>
+    ensures { λ r. ⌜ Adds r (vec-items (now (out .entry))) (vec-items (now (out .exit))) (id-text id) ⌝ }
+{
     match id {
         Some(n) => push_signed(out, n),
         None => push_word(out, "none"),
     }
 }
 
-fn push_problem(out: &mut Vec<u8>, problem: Problem) -> Result<(), AllocError> {
-    let (kind, code) = match problem {
-        Problem::General(code) => (" general problem ", code),
-        Problem::Invoke(code) => (" invoke problem ", code),
-        Problem::ReturnResult(code) => (" result problem ", code),
-        Problem::ReturnError(code) => (" error problem ", code),
-    };
-    push_word(out, kind)?;
-    push_number(out, usize::from(code))
+fn push_problem(out: &mut Vec<u8>, problem: Problem) -> Result<(), AllocError>
+    ensures { λ r. ⌜ Adds r (vec-items (now (out .entry))) (vec-items (now (out .exit))) (problem-text problem) ⌝ }
+{
+    match problem {
+        Problem::General(code) => push_named(out, " general problem ", code),
+        Problem::Invoke(code) => push_named(out, " invoke problem ", code),
+        Problem::ReturnResult(code) => push_named(out, " result problem ", code),
+        Problem::ReturnError(code) => push_named(out, " error problem ", code),
+    }
 }
 
-fn push_component(out: &mut Vec<u8>, component: Component<'_>) -> Result<(), AllocError> {
+fn push_component(out: &mut Vec<u8>, component: Component<'_>) -> Result<(), AllocError>
+    ensures { λ r. ⌜ Adds r (vec-items (now (out .entry))) (vec-items (now (out .exit))) (component-text (component .entry)) ⌝ }
+{
     match component {
-        Component::Invoke { id, operation, argument } => {
-            push_word(out, "invoke ")?;
-            push_signed(out, id)?;
-            push_word(out, " operation ")?;
-            push_signed(out, operation)?;
+        Component::Invoke {
+            id,
+            operation,
+            argument,
+        } => {
+            push_code(out, "invoke ", id)?;
+            push_code(out, " operation ", operation)?;
             push_parameter(out, argument)
         }
         Component::ReturnResult { id, answer } => {
-            push_word(out, "result ")?;
-            push_signed(out, id)?;
-            let Some(answer) = answer else {
-                return Ok(());
-            };
-            push_word(out, " operation ")?;
-            push_signed(out, answer.operation)?;
-            push_parameter(out, Some(answer.parameter))
+            push_code(out, "result ", id)?;
+            push_answer(out, answer)
         }
-        Component::ReturnError { id, error, parameter } => {
-            push_word(out, "error ")?;
-            push_signed(out, id)?;
-            push_word(out, " error ")?;
-            push_signed(out, error)?;
+        Component::ReturnError {
+            id,
+            error,
+            parameter,
+        } => {
+            push_code(out, "error ", id)?;
+            push_code(out, " error ", error)?;
             push_parameter(out, parameter)
         }
         Component::Reject { id, problem } => {
@@ -78,12 +122,9 @@ fn push_component(out: &mut Vec<u8>, component: Component<'_>) -> Result<(), All
     }
 }
 
-fn push_named(out: &mut Vec<u8>, name: &str, n: u8) -> Result<(), AllocError> {
-    push_word(out, name)?;
-    push_number(out, usize::from(n))
-}
-
-fn push_request(out: &mut Vec<u8>, request: Request) -> Result<(), AllocError> {
+fn push_request(out: &mut Vec<u8>, request: Request) -> Result<(), AllocError>
+    ensures { λ r. ⌜ Adds r (vec-items (now (out .entry))) (vec-items (now (out .exit))) (request-text request) ⌝ }
+{
     match request {
         Request::Begin { size: None } => push_word(out, "begin"),
         Request::Begin { size: Some(size) } => push_named(out, "begin size ", size),
@@ -98,7 +139,9 @@ fn push_request(out: &mut Vec<u8>, request: Request) -> Result<(), AllocError> {
     }
 }
 
-fn layer_word(layer: Layer) -> &'static str {
+fn layer_word(layer: Layer) -> &'static str
+    ensures { λ r. ⌜ now r ≡ layer-text layer ⌝ }
+{
     match layer {
         Layer::Element => " element",
         Layer::Component => " component",
@@ -106,16 +149,38 @@ fn layer_word(layer: Layer) -> &'static str {
     }
 }
 
-fn push_fault(out: &mut Vec<u8>, fault: &Fault) -> Result<(), AllocError> {
-    push_named(out, "fault ", fault.cause.number())?;
+// The cause's number, the place and the layer of a fault.
+fn push_cause(out: &mut Vec<u8>, cause: u8, place: usize, layer: Layer) -> Result<(), AllocError>
+    ensures { λ r. ⌜ Adds r (vec-items (now (out .entry))) (vec-items (now (out .exit))) (fault-text cause place layer) ⌝ }
+{
+    push_named(out, "fault ", cause)?;
     push_word(out, " at ")?;
-    push_number(out, fault.place)?;
-    push_word(out, layer_word(fault.cause.layer()))?;
+    push_number(out, place)?;
+    push_word(out, layer_word(layer))
+}
+
+fn push_reply(out: &mut Vec<u8>, octets: &[u8]) -> Result<(), AllocError>
+    ensures { λ r. ⌜ Adds r (vec-items (now (out .entry))) (vec-items (now (out .exit))) (reply-text (now (octets .entry))) ⌝ }
+{
+    push_word(out, " reply")?;
+    push_pairs(out, octets)
+}
+
+fn push_fault(out: &mut Vec<u8>, fault: &Fault) -> Result<(), AllocError> {
+    push_cause(out, fault.cause.number(), fault.place, fault.cause.layer())?;
     if let Some(reply) = fault.reply() {
-        push_word(out, " reply")?;
-        push_pairs(out, reply.octets())?;
+        push_reply(out, reply.octets())?;
     }
     Ok(())
+}
+
+// The request that an invoke makes, or its fault, on a line of its own.
+fn push_invoked(out: &mut Vec<u8>, octets: &[u8]) -> Result<(), AllocError> {
+    push_word(out, "\n  ")?;
+    match read_request(octets) {
+        Ok(invoke) => push_request(out, invoke.request),
+        Err(fault) => push_fault(out, &fault),
+    }
 }
 
 // The lines that account for an element: the component or the fault, and under an invoke its request.
@@ -124,11 +189,7 @@ pub fn push_account(out: &mut Vec<u8>, octets: &[u8]) -> Result<(), AllocError> 
         Ok(component) => {
             push_component(out, component)?;
             if let Component::Invoke { .. } = component {
-                push_word(out, "\n  ")?;
-                match read_request(octets) {
-                    Ok(invoke) => push_request(out, invoke.request)?,
-                    Err(fault) => push_fault(out, &fault)?,
-                }
+                push_invoked(out, octets)?;
             }
         }
         Err(fault) => push_fault(out, &fault)?,

@@ -1,4 +1,7 @@
 // Cuts input into lines, and answers each.
+ghost use mathlib.Core.Path.{_≡_};
+ghost use Prim.Native.Nat.{ℕ, _≤_, _<_};
+ghost use lib.ListN.{length, getD};
 use crate::account::push_account;
 use crate::hex::Content;
 use crate::hex::read_octets;
@@ -14,7 +17,11 @@ pub struct Decoder {
 }
 
 // How many bytes stand before the first line feed, or in all where there is none.
-fn line_length(bytes: &[u8]) -> usize {
+fn line_length(bytes: &[u8]) -> usize
+    ensures within { λ r. ⌜ r ≤ length (now (bytes .entry)) ⌝ }
+    ensures before { λ r. ⌜ ((k : ℕ) → k < r → getD (now (bytes .entry)) k 0 ≡ 10 → ⊥) ⌝ }
+    ensures found { λ r. ⌜ (r < length (now (bytes .entry)) → getD (now (bytes .entry)) r 0 ≡ 10) ⌝ }
+{
     for (i, byte) in bytes.iter().enumerate() {
         if *byte == b'\n' {
             return i;
@@ -33,7 +40,11 @@ fn answer(line: &[u8], octets: &mut Vec<u8>, answers: &mut Vec<u8>) -> Result<()
 
 impl Decoder {
     pub fn new(heap: Global) -> Decoder {
-        Decoder { line: Vec::new(heap), octets: Vec::new(heap), answers: Vec::new(heap) }
+        Decoder {
+            line: Vec::new(heap),
+            octets: Vec::new(heap),
+            answers: Vec::new(heap),
+        }
     }
 
     // Answers each line that ends in the block, and keeps the one that goes on.

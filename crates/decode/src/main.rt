@@ -13,11 +13,19 @@ use std::io::Write;
 
 const BLOCK: usize = 65536;
 
-// Reads a block of input; nothing where the input ends, and for an interrupted read.
-fn read_block(input: &mut Stdin, block: &mut [u8]) -> io::Result<Option<usize>> {
+// Reads a block of input and answers its lines; false where the input has ended.
+fn read_block(input: &mut Stdin, block: &mut [u8], decoder: &mut Decoder) -> io::Result<bool> {
     match input.read(block) {
-        Ok(n) => Ok(Some(n)),
-        Err(e) => if e.kind() == ErrorKind::Interrupted { Ok(None) } else { Err(e) },
+        Ok(0) => Ok(false),
+        Ok(n) => {
+            decoder.take_block(&block[0..n])?;
+            Ok(true)
+        }
+        Err(e) => if e.kind() == ErrorKind::Interrupted {
+            Ok(true)
+        } else {
+            Err(e)
+        },
     }
 }
 
@@ -33,13 +41,9 @@ fn run(rt: &LibcRuntime) -> io::Result<()> {
     let mut decoder = Decoder::new(rt.alloc());
     let mut input = rt.stdin();
     for _ in 0..u64::MAX {
-        let Some(n) = read_block(&mut input, &mut block)? else {
-            continue;
-        };
-        if n == 0 {
+        if !read_block(&mut input, &mut block, &mut decoder)? {
             break;
         }
-        decoder.take_block(&block[0..n])?;
         write_answers(rt, &mut decoder)?;
     }
     decoder.end()?;
