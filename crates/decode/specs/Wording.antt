@@ -89,3 +89,10 @@ fault-text cause place layer = codes "fault " ++ (decimal cause ++ (codes " at "
 
 abbrev pub reply-text : List ℕ → List ℕ
 reply-text octets = codes " reply" ++ pairs octets
+
+-- what is added for a line that spells `s`: a refusal where it spells no octets, nothing where it is blank,
+-- and else the account of its octets
+abbrev pub Answers : {X Y : Type 0} → Option (List ℕ) → Result X Y → List ℕ → List ℕ → Type 0
+Answers None r was is = Adds r was is (codes "not octets\n")
+Answers (Some []) r was is = Adds r was is []
+Answers (Some (o ∷ os)) r was is = Unit {0}

@@ -18,7 +18,7 @@ use facility::read_element;
 use facility::read_request;
 use std::alloc::AllocError;
 
-fn push_word(out: &mut Vec<u8>, word: &str) -> Result<(), AllocError>
+pub fn push_word(out: &mut Vec<u8>, word: &str) -> Result<(), AllocError>
     ensures { λ r. ⌜ Adds r (vec-items (now (out .entry))) (vec-items (now (out .exit))) (now (word .entry)) ⌝ }
 {
     out.extend_from_slice(word.as_bytes())

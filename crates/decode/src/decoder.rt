@@ -2,7 +2,11 @@
 ghost use mathlib.Core.Path.{_≡_};
 ghost use Prim.Native.Nat.{ℕ, _≤_, _<_};
 ghost use lib.ListN.{length, getD};
+ghost use Rattle.std.specs.Of.Vec.{vec-items};
+ghost use Rattle.decode.specs.Spelling.{spelled};
+ghost use Rattle.decode.specs.Wording.{Answers};
 use crate::account::push_account;
+use crate::account::push_word;
 use crate::hex::Content;
 use crate::hex::read_octets;
 use std::alloc::AllocError;
@@ -30,11 +34,13 @@ fn line_length(bytes: &[u8]) -> usize
     bytes.len()
 }
 
-fn answer(line: &[u8], octets: &mut Vec<u8>, answers: &mut Vec<u8>) -> Result<(), AllocError> {
+fn answer(line: &[u8], octets: &mut Vec<u8>, answers: &mut Vec<u8>) -> Result<(), AllocError>
+    ensures { λ r. ⌜ Answers (spelled (now (line .entry))) r (vec-items (now (answers .entry))) (vec-items (now (answers .exit))) ⌝ }
+{
     match read_octets(line, octets)? {
         Content::Blank => Ok(()),
         Content::Octets => push_account(answers, octets.as_slice()),
-        Content::NotOctets => answers.extend_from_slice(b"not octets\n"),
+        Content::NotOctets => push_word(answers, "not octets\n"),
     }
 }
 
