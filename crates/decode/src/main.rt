@@ -1,4 +1,4 @@
-// Decodes lines of hex pairs: each is a Facility element, and is answered by what the element says, or by its fault.
+// Answers each line of hex pairs, a Facility element, with what the element says, or with its fault.
 mod account;
 mod decoder;
 mod figures;
