@@ -27,6 +27,14 @@ use Rattle.facility.specs.declared.request.Request.the-variants.{Begin, Add, Sp
 pub record Adds {X Y : Type 0} (r : Result X Y) (was is text : List ℕ) : Type 0 where
   pub added : made r (λ _. is ≡ was ++ text)
 
+-- some text was added behind what stood there, where nothing failed
+pub record Grows {X Y : Type 0} (r : Result X Y) (was is : List ℕ) : Type 0 where
+  pub grown : made r (λ _. (text : List ℕ) × (is ≡ was ++ text))
+
+-- a line or more was added, down to a line feed
+pub record GrowsByLines {X Y : Type 0} (r : Result X Y) (was is : List ℕ) : Type 0 where
+  pub grown-by-lines : made r (λ _. (text : List ℕ) × (is ≡ was ++ (text ++ codes "\n")))
+
 -- the upper-case hex digit of a value below 16
 abbrev pub hex-digit : ℕ → ℕ
 hex-digit v = cond (ltb v 10) (48 + v) (55 + v)
@@ -89,10 +97,3 @@ fault-text cause place layer = codes "fault " ++ (decimal cause ++ (codes " at "
 
 abbrev pub reply-text : List ℕ → List ℕ
 reply-text octets = codes " reply" ++ pairs octets
-
--- what is added for a line that spells `s`: a refusal where it spells no octets, nothing where it is blank,
--- and else the account of its octets
-abbrev pub Answers : {X Y : Type 0} → Option (List ℕ) → Result X Y → List ℕ → List ℕ → Type 0
-Answers None r was is = Adds r was is (codes "not octets\n")
-Answers (Some []) r was is = Adds r was is []
-Answers (Some (o ∷ os)) r was is = Unit {0}

@@ -3,7 +3,7 @@ ghost use mathlib.Core.List.{_++_};
 ghost use mathlib.Core.Path.{_≡_};
 ghost use Rattle.std.specs.Of.Vec.{vec-items};
 ghost use Rattle.std.specs.Written.{decimal, signed};
-ghost use Rattle.decode.specs.Wording.{Adds, parameter-text, answer-text, id-text, problem-text, component-text, request-text, layer-text, fault-text, reply-text};
+ghost use Rattle.decode.specs.Wording.{Adds, Grows, GrowsByLines, parameter-text, answer-text, id-text, problem-text, component-text, request-text, layer-text, fault-text, reply-text};
 use crate::figures::push_number;
 use crate::figures::push_pairs;
 use crate::figures::push_signed;
@@ -166,16 +166,20 @@ fn push_reply(out: &mut Vec<u8>, octets: &[u8]) -> Result<(), AllocError>
     push_pairs(out, octets)
 }
 
-fn push_fault(out: &mut Vec<u8>, fault: &Fault) -> Result<(), AllocError> {
+fn push_fault(out: &mut Vec<u8>, fault: &Fault) -> Result<(), AllocError>
+    ensures { λ r. ⌜ Grows r (vec-items (now (out .entry))) (vec-items (now (out .exit))) ⌝ }
+{
     push_cause(out, fault.cause.number(), fault.place, fault.cause.layer())?;
-    if let Some(reply) = fault.reply() {
-        push_reply(out, reply.octets())?;
+    match fault.reply() {
+        Some(reply) => push_reply(out, reply.octets()),
+        None => Ok(()),
     }
-    Ok(())
 }
 
 // The request that an invoke makes, or its fault, on a line of its own.
-fn push_invoked(out: &mut Vec<u8>, octets: &[u8]) -> Result<(), AllocError> {
+fn push_invoked(out: &mut Vec<u8>, octets: &[u8]) -> Result<(), AllocError>
+    ensures { λ r. ⌜ Grows r (vec-items (now (out .entry))) (vec-items (now (out .exit))) ⌝ }
+{
     push_word(out, "\n  ")?;
     match read_request(octets) {
         Ok(invoke) => push_request(out, invoke.request),
@@ -183,16 +187,31 @@ fn push_invoked(out: &mut Vec<u8>, octets: &[u8]) -> Result<(), AllocError> {
     }
 }
 
-// The lines that account for an element: the component or the fault, and under an invoke its request.
-pub fn push_account(out: &mut Vec<u8>, octets: &[u8]) -> Result<(), AllocError> {
-    match read_element(octets) {
-        Ok(component) => {
-            push_component(out, component)?;
-            if let Component::Invoke { .. } = component {
-                push_invoked(out, octets)?;
-            }
-        }
-        Err(fault) => push_fault(out, &fault)?,
+// The component that was read from the octets, and under an invoke its request.
+fn push_read(out: &mut Vec<u8>, component: Component<'_>, octets: &[u8]) -> Result<(), AllocError>
+    ensures { λ r. ⌜ Grows r (vec-items (now (out .entry))) (vec-items (now (out .exit))) ⌝ }
+{
+    push_component(out, component)?;
+    match component {
+        Component::Invoke { .. } => push_invoked(out, octets),
+        _ => Ok(()),
     }
+}
+
+// What is read from the octets, or the fault.
+fn push_reading(out: &mut Vec<u8>, octets: &[u8]) -> Result<(), AllocError>
+    ensures { λ r. ⌜ Grows r (vec-items (now (out .entry))) (vec-items (now (out .exit))) ⌝ }
+{
+    match read_element(octets) {
+        Ok(component) => push_read(out, component, octets),
+        Err(fault) => push_fault(out, &fault),
+    }
+}
+
+// The lines that account for an element: the component or the fault, and under an invoke its request.
+pub fn push_account(out: &mut Vec<u8>, octets: &[u8]) -> Result<(), AllocError>
+    ensures { λ r. ⌜ GrowsByLines r (vec-items (now (out .entry))) (vec-items (now (out .exit))) ⌝ }
+{
+    push_reading(out, octets)?;
     push_word(out, "\n")
 }

@@ -1,10 +1,12 @@
 // Cuts input into lines, and answers each.
+ghost use mathlib.Core.List.{[], _++_};
 ghost use mathlib.Core.Path.{_≡_};
 ghost use Prim.Native.Nat.{ℕ, _≤_, _<_};
 ghost use lib.ListN.{length, getD};
 ghost use Rattle.std.specs.Of.Vec.{vec-items};
+ghost use Rattle.std.specs.Vec.{made};
+ghost use Rattle.decode.specs.Lines.{ended, going-on, Answered, All-answered};
 ghost use Rattle.decode.specs.Spelling.{spelled};
-ghost use Rattle.decode.specs.Wording.{Answers};
 use crate::account::push_account;
 use crate::account::push_word;
 use crate::hex::Content;
@@ -34,8 +36,9 @@ fn line_length(bytes: &[u8]) -> usize
     bytes.len()
 }
 
+// Adds the answer to a line.
 fn answer(line: &[u8], octets: &mut Vec<u8>, answers: &mut Vec<u8>) -> Result<(), AllocError>
-    ensures { λ r. ⌜ Answers (spelled (now (line .entry))) r (vec-items (now (answers .entry))) (vec-items (now (answers .exit))) ⌝ }
+    ensures { λ r. ⌜ made r (λ _. Answered (spelled (now (line .entry))) (vec-items (now (answers .entry))) (vec-items (now (answers .exit)))) ⌝ }
 {
     match read_octets(line, octets)? {
         Content::Blank => Ok(()),
@@ -45,7 +48,10 @@ fn answer(line: &[u8], octets: &mut Vec<u8>, answers: &mut Vec<u8>) -> Result<()
 }
 
 impl Decoder {
-    pub fn new(heap: Global) -> Decoder {
+    pub fn new(heap: Global) -> Decoder
+        ensures kept { λ r. ⌜ vec-items (r .line) ≡ [] ⌝ }
+        ensures answered { λ r. ⌜ vec-items (r .answers) ≡ [] ⌝ }
+    {
         Decoder {
             line: Vec::new(heap),
             octets: Vec::new(heap),
@@ -54,7 +60,10 @@ impl Decoder {
     }
 
     // Answers each line that ends in the block, and keeps the one that goes on.
-    pub fn take_block(&mut self, block: &[u8]) -> Result<(), AllocError> {
+    pub fn take_block(&mut self, block: &[u8]) -> Result<(), AllocError>
+        ensures kept { λ r. ⌜ made r (λ _. vec-items (now (self .exit) .line) ≡ going-on (vec-items (now (self .entry) .line)) (now (block .entry))) ⌝ }
+        ensures answered { λ r. ⌜ made r (λ _. All-answered (ended (vec-items (now (self .entry) .line)) (now (block .entry))) (vec-items (now (self .entry) .answers)) (vec-items (now (self .exit) .answers))) ⌝ }
+    {
         let mut rest = block;
         loop {
             let end = line_length(rest);
@@ -67,7 +76,10 @@ impl Decoder {
     }
 
     // Answers the line that ends with these bytes.
-    fn end_line(&mut self, bytes: &[u8]) -> Result<(), AllocError> {
+    fn end_line(&mut self, bytes: &[u8]) -> Result<(), AllocError>
+        ensures kept { λ r. ⌜ made r (λ _. vec-items (now (self .exit) .line) ≡ []) ⌝ }
+        ensures answered { λ r. ⌜ made r (λ _. Answered (spelled (vec-items (now (self .entry) .line) ++ now (bytes .entry))) (vec-items (now (self .entry) .answers)) (vec-items (now (self .exit) .answers))) ⌝ }
+    {
         if self.line.is_empty() {
             return answer(bytes, &mut self.octets, &mut self.answers);
         }
@@ -76,17 +88,26 @@ impl Decoder {
     }
 
     // Answers the line that the input ends with.
-    pub fn end(&mut self) -> Result<(), AllocError> {
+    pub fn end(&mut self) -> Result<(), AllocError>
+        ensures kept { λ r. ⌜ made r (λ _. vec-items (now (self .exit) .line) ≡ []) ⌝ }
+        ensures answered { λ r. ⌜ made r (λ _. Answered (spelled (vec-items (now (self .entry) .line))) (vec-items (now (self .entry) .answers)) (vec-items (now (self .exit) .answers))) ⌝ }
+    {
         answer(self.line.as_slice(), &mut self.octets, &mut self.answers)?;
         self.line.clear();
         Ok(())
     }
 
-    pub fn answers(&self) -> &[u8] {
+    pub fn answers(&self) -> &[u8]
+        ensures { λ r. ⌜ now r ≡ vec-items (now (self .entry) .answers) ⌝ }
+    {
         self.answers.as_slice()
     }
 
-    pub fn forget_answers(&mut self) {
+    // Makes room for more answers, once these are written.
+    pub fn forget_answers(&mut self)
+        ensures kept { λ _. ⌜ now (self .exit) .line ≡ now (self .entry) .line ⌝ }
+        ensures answered { λ _. ⌜ vec-items (now (self .exit) .answers) ≡ [] ⌝ }
+    {
         self.answers.clear();
     }
 }
