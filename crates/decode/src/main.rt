@@ -13,7 +13,7 @@ use std::io::Write;
 
 const BLOCK: usize = 65536;
 
-// Reads a block of input and answers its lines; false where the input has ended.
+// Reads a block of input and answers its lines; false where the input has ended. An interrupted read is made again.
 fn read_block(input: &mut Stdin, block: &mut [u8], decoder: &mut Decoder) -> io::Result<bool> {
     match input.read(block) {
         Ok(0) => Ok(false),
