@@ -88,8 +88,8 @@ unfolding bad-value
 value-moves zero p q xs well = let no : _≡_ {A = ℕ} 0 1 = cc in absurd (omega arith)
 value-moves (suc n) p q xs well = at (value-moves n) (begins-with-value xs) (is-constructed (tag xs)) well
   where
-  at : ((p q : ℕ) (xs : List ℕ) → bad-value n p xs ≡ None → bad-value n q xs ≡ None) → (whole nested : Bool)
-      → cond whole (cond nested (first-bad (bad-value n) 0 (p + 2) (contents xs)) None) (Some p) ≡ None → cond whole (cond nested (first-bad (bad-value n) 0 (q + 2) (contents xs)) None) (Some q) ≡ None
-  at move true true h = moves (bad-value n) move 0 (p + 2) (q + 2) (contents xs) h
-  at move true false h = refl
-  at move false nested h = let no : _≡_ {A = ℕ} 0 1 = cc in absurd (omega arith)
+    at : ((p q : ℕ) (xs : List ℕ) → bad-value n p xs ≡ None → bad-value n q xs ≡ None) → (whole nested : Bool)
+        → cond whole (cond nested (first-bad (bad-value n) 0 (p + 2) (contents xs)) None) (Some p) ≡ None → cond whole (cond nested (first-bad (bad-value n) 0 (q + 2) (contents xs)) None) (Some q) ≡ None
+    at move true true h = moves (bad-value n) move 0 (p + 2) (q + 2) (contents xs) h
+    at move true false h = refl
+    at move false nested h = let no : _≡_ {A = ℕ} 0 1 = cc in absurd (omega arith)

@@ -54,9 +54,9 @@ contents-write (a ∷ b ∷ []) z all is =
     ⊎-elim
     (λ short. let e = sym (cond-true (is-short (toZ w16 (a * 256 + b))) None (Some (toZ w16 (a * 256 + b))) short) ∙ is in let no : _≡_ {A = ℕ} 0 1 = cc in absurd (omega arith))
     (λ long. let e = sym (cond-false (is-short (toZ w16 (a * 256 + b))) None (Some (toZ w16 (a * 256 + b))) long) ∙ is in
-        let same : toZ w16 (a * 256 + b) ≡ z = cc in
-        let back : ofZ w16 z ≡ a * 256 + b = ap (ofZ w16) (sym same) ∙ ofZ-toZ w16 (a * 256 + b) (omega (arith, all .0, all .1 .0)) in
-        cond-false _ _ _ (ap is-short (sym same) ∙ long) ∙ ap (λ n. n / 256 ∷ n % 256 ∷ []) back ∙ ap (λ n. n ∷ (a * 256 + b) % 256 ∷ []) (div-mul-add a 256 b (all .1 .0)) ∙ ap (λ n. a ∷ n ∷ []) (mod-mul-add a 256 b (all .1 .0)))
+    let same : toZ w16 (a * 256 + b) ≡ z = cc in
+    let back : ofZ w16 z ≡ a * 256 + b = ap (ofZ w16) (sym same) ∙ ofZ-toZ w16 (a * 256 + b) (omega (arith, all .0, all .1 .0)) in
+    cond-false _ _ _ (ap is-short (sym same) ∙ long) ∙ ap (λ n. n / 256 ∷ n % 256 ∷ []) back ∙ ap (λ n. n ∷ (a * 256 + b) % 256 ∷ []) (div-mul-add a 256 b (all .1 .0)) ∙ ap (λ n. a ∷ n ∷ []) (mod-mul-add a 256 b (all .1 .0)))
     (cases-bool (is-short (toZ w16 (a * 256 + b))))
 contents-write (a ∷ b ∷ c ∷ xs) z all is = let no : _≡_ {A = ℕ} 0 1 = cc in absurd (omega arith)
 

@@ -29,7 +29,10 @@ impl Drop for Nested<'_> {
         ensures { λ _. ⌜ now (self .exit .0) .pos ≡ now (self .entry .window) .pos ⌝ }
     {
         self.window.end = self.outer;
-        let Nested { window: _, outer: _ } = self;
+        let Nested {
+            window: _,
+            outer: _,
+        } = self;
     }
 }
 
@@ -79,7 +82,10 @@ pub fn check_structure(octets: &[u8], place: usize, levels: u8) -> Result<usize,
     if place > octets.len() {
         return Err(place);
     }
-    let mut window = Window { pos: place, end: octets.len() };
+    let mut window = Window {
+        pos: place,
+        end: octets.len(),
+    };
     check_value(octets, &mut window, levels)?;
     Ok(window.pos)
 }

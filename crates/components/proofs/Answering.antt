@@ -59,9 +59,9 @@ pair-last : (v : Part) (us : List Part) (a : ℤ × Part) → integer-and-value 
 pair-last v [] a is = let no : _≡_ {A = ℕ} 0 1 = cc in absurd (omega arith)
 pair-last v (w ∷ []) a is = with-number (an-integer v) is
   where
-  with-number : (o : Option ℤ) → mapped (λ n. (n, w)) o ≡ Some a → _≡_ {A = Result (Option Part) Fault} (Ok (Some w)) (Ok (Some (a .1)))
-  with-number None e = let no : _≡_ {A = ℕ} 0 1 = cc in absurd (omega arith)
-  with-number (Some n) e = let same : _≡_ {A = ℤ × Part} (n, w) a = cc in ap (λ q. Ok (Some (q .1))) same
+    with-number : (o : Option ℤ) → mapped (λ n. (n, w)) o ≡ Some a → _≡_ {A = Result (Option Part) Fault} (Ok (Some w)) (Ok (Some (a .1)))
+    with-number None e = let no : _≡_ {A = ℕ} 0 1 = cc in absurd (omega arith)
+    with-number (Some n) e = let same : _≡_ {A = ℤ × Part} (n, w) a = cc in ap (λ q. Ok (Some (q .1))) same
 pair-last v (w ∷ u ∷ us) a is = let no : _≡_ {A = ℕ} 0 1 = cc in absurd (omega arith)
 
 -- an operation and a last value
@@ -84,16 +84,15 @@ answer-reads p (Some a) fits few fit =
     let r = fit-reads 6 q (Some (a .1)) fit in
     let last = one-last (values q xs) (moved q (a .1)) (r .1) in
     let read = sequence-read p (a .0) xs short ∙ pair-made (p + 2) (a .0) (values q xs) (moved q (a .1)) fits last in
-    let v : Part = record { octets = sequence-octets p (a .0) xs short; place = p } in
-    (
+    let v : Part = record { octets = sequence-octets p (a .0) xs short; place = p } in (
       alone-list 7 p (answer-octets (Some a)) alone (sequence-fault p (a .0) xs short ∙ r .0),
       ap (at-most-one an-answer) (alone-values p (answer-octets (Some a)) alone) ∙ ap (λ t. and-then (taken v [] t) (λ one. and-then (nothing-more (one .1)) (λ _. Ok (Some (one .0))))) read,
     )
   where
-  one-last : (us : List Part) (w : Part) → at-most-one any us ≡ Ok (Some w) → us ≡ w ∷ []
-  one-last [] w is = let no : _≡_ {A = ℕ} 0 1 = cc in absurd (omega arith)
-  one-last (u ∷ []) w is = let same : u ≡ w = cc in ap (λ x. x ∷ []) same
-  one-last (u ∷ t ∷ ts) w is = let no : _≡_ {A = ℕ} 0 1 = cc in absurd (omega arith)
+    one-last : (us : List Part) (w : Part) → at-most-one any us ≡ Ok (Some w) → us ≡ w ∷ []
+    one-last [] w is = let no : _≡_ {A = ℕ} 0 1 = cc in absurd (omega arith)
+    one-last (u ∷ []) w is = let same : u ≡ w = cc in ap (λ x. x ∷ []) same
+    one-last (u ∷ t ∷ ts) w is = let no : _≡_ {A = ℕ} 0 1 = cc in absurd (omega arith)
 
 -- and one that reads as itself has one value
 reads-answer : (p : ℕ) (o : Option (ℤ × Part)) → length (answer-octets o) ≤ 129 → bad-list 7 p (answer-octets o) ≡ None
@@ -110,12 +109,12 @@ reads-answer p (Some a) few well is =
     let last = pair-last (record { octets = integer-octets (a .0); place = p + 2 }) (values q xs) (answer-at p a) (sym (sequence-read p (a .0) xs short) ∙ read) in
     reads-fit 6 q (Some (a .1)) (sym (sequence-fault p (a .0) xs short) ∙ inside .0) last
   where
-  only-answer : (v : Part) (a : ℤ × Part) → at-most-one an-answer (v ∷ []) ≡ Ok (Some a) → an-answer v ≡ Some a
-  only-answer v a is = by (an-answer v) is
-    where
-    by : (t : Option (ℤ × Part)) → and-then (taken v [] t) (λ one. and-then (nothing-more (one .1)) (λ _. Ok (Some (one .0)))) ≡ Ok (Some a) → t ≡ Some a
-    by None e = let no : _≡_ {A = ℕ} 0 1 = cc in absurd (omega arith)
-    by (Some b) e = cc
+    only-answer : (v : Part) (a : ℤ × Part) → at-most-one an-answer (v ∷ []) ≡ Ok (Some a) → an-answer v ≡ Some a
+    only-answer v a is = by (an-answer v) is
+      where
+        by : (t : Option (ℤ × Part)) → and-then (taken v [] t) (λ one. and-then (nothing-more (one .1)) (λ _. Ok (Some (one .0)))) ≡ Ok (Some a) → t ≡ Some a
+        by None e = let no : _≡_ {A = ℕ} 0 1 = cc in absurd (omega arith)
+        by (Some b) e = cc
 
 -- a result, read
 module _ (end : ℕ) (id : ℤ) (o : Option (ℤ × Part)) (fits : SFits w16 id) where
@@ -127,11 +126,11 @@ module _ (end : ℕ) (id : ℤ) (o : Option (ℤ × Part)) (fits : SFits w16 id)
   moved-there : (mapped (answer-at (5 + length (integer-octets id))) o ≡ mapped (answer-moved id) o)
   moved-there = same o
     where
-    same : (o : Option (ℤ × Part)) → mapped (answer-at (5 + length (integer-octets id))) o ≡ mapped (answer-moved id) o
-    same None = refl
-    same (Some a) =
-        let e : 5 + length (integer-octets id) + 2 + length (integer-octets (a .0)) ≡ 5 + (length (integer-octets id) + (2 + length (integer-octets (a .0)))) = omega arith in
-        ap (λ q. Some (a .0, moved q (a .1))) e
+      same : (o : Option (ℤ × Part)) → mapped (answer-at (5 + length (integer-octets id))) o ≡ mapped (answer-moved id) o
+      same None = refl
+      same (Some a) =
+          let e : 5 + length (integer-octets id) + 2 + length (integer-octets (a .0)) ≡ 5 + (length (integer-octets id) + (2 + length (integer-octets (a .0)))) = omega arith in
+          ap (λ q. Some (a .0, moved q (a .1))) e
 
   few-left : length (integer-octets id ++ answer-octets o) ≤ 127 → length (answer-octets o) ≤ 129
   few-left few = omega (arith, length-append (integer-octets id) (answer-octets o))
@@ -187,10 +186,9 @@ reject-reads end id why fits =
     let v : Part = record { octets = id-octets id; place = 5 } in
     let p = 5 + length (id-octets id) in
     let w : Part = record { octets = problem-octets why; place = p } in
-    let all = joint-values (id-octets id) (problem-octets why) (id-alone id) 5 ∙ ap (λ l. v ∷ l) (alone-values p (problem-octets why) (problem-alone why)) in
-    (
+    let all = joint-values (id-octets id) (problem-octets why) (id-alone id) 5 ∙ ap (λ l. v ∷ l) (alone-values p (problem-octets why) (problem-alone why)) in (
       joint-list (id-octets id) (problem-octets why) (id-alone id) 7 5 ∙ ap (λ o. or-else o (bad-list 7 p (problem-octets why))) (id-well id) ∙ alone-list 7 p (problem-octets why) (problem-alone why) (problem-well p why),
       ap (a-reject end) all
-      ∙ ap (λ r. and-then (taken v (w ∷ []) r) (λ i. and-then (first a-problem end (i .1)) (λ y. and-then (nothing-more (y .1)) (λ _. Ok (reject (i .0) (y .0)))))) (id-reads id fits)
-      ∙ ap (λ r. and-then (taken w [] r) (λ y. and-then (nothing-more (y .1)) (λ _. Ok (reject id (y .0))))) (problem-reads why),
+          ∙ ap (λ r. and-then (taken v (w ∷ []) r) (λ i. and-then (first a-problem end (i .1)) (λ y. and-then (nothing-more (y .1)) (λ _. Ok (reject (i .0) (y .0)))))) (id-reads id fits)
+          ∙ ap (λ r. and-then (taken w [] r) (λ y. and-then (nothing-more (y .1)) (λ _. Ok (reject id (y .0))))) (problem-reads why),
     )

@@ -84,8 +84,9 @@ id-long (Some n) = integer-long n
 pub reject-fits : (s : Said) (id : Option ℤ) (why : Problem) → s ≡ reject id why → Sized s → (before after : List ℕ) (e : Refusal) → 12 ≤ length before → Written s before after (Err e) → ⊥
 reject-fits s id why is fits before after e room told = refused e (subst (λ y. Written y before after (Err e)) is told)
   where
-  few : length (id-octets id ++ problem-octets why) ≤ 7
-  few = omega (arith, length-append (id-octets id) (problem-octets why), problem-long why, id-long id)
-  refused : (e : Refusal) → Written (reject id why) before after (Err e) → ⊥
-  refused Unreadable told = told .0 (readable-from (reject id why) (subst Sized is fits) tt (omega (arith, few)))
-  refused ShortMemory told = omega (arith, told .1, few)
+    few : length (id-octets id ++ problem-octets why) ≤ 7
+    few = omega (arith, length-append (id-octets id) (problem-octets why), problem-long why, id-long id)
+
+    refused : (e : Refusal) → Written (reject id why) before after (Err e) → ⊥
+    refused Unreadable told = told .0 (readable-from (reject id why) (subst Sized is fits) tt (omega (arith, few)))
+    refused ShortMemory told = omega (arith, told .1, few)

@@ -63,8 +63,8 @@ reads-parts xs s is =
     let head = unless-parts (head-fault xs) (reading-component ys) s is in
     ⊎-elim
     (λ known.
-        let parts = structured-parts (bad-component ys) typed s (sym (cond-true (is-component-tag (tag ys)) (structured (bad-component ys) typed) (Err (at Tag 3)) known) ∙ head .1) in
-        record { head = head .0; known = known; well = parts .0; typed = parts .1 })
+    let parts = structured-parts (bad-component ys) typed s (sym (cond-true (is-component-tag (tag ys)) (structured (bad-component ys) typed) (Err (at Tag 3)) known) ∙ head .1) in
+    record { head = head .0; known = known; well = parts .0; typed = parts .1 })
     (λ other. let e = sym (cond-false (is-component-tag (tag ys)) (structured (bad-component ys) typed) (Err (at Tag 3)) other) ∙ head .1 in let no : _≡_ {A = ℕ} 0 1 = cc in absurd (omega arith))
     (cases-bool (is-component-tag (tag ys)))
 
@@ -87,12 +87,11 @@ read-writes xs s all is =
     let lies = values-lie (length cs) 7 5 cs (omega arith) (component-contents-well ys (r .well) (r .known)) in
     let octets = subst Octets (sym (lies .1)) (all-drop _ 2 ys (all-drop _ 3 xs all)) in
     let t = tag-rewrites (tag ys) 7 (3 + length ys) (values 5 cs) s (lies .0) octets (r .known) (r .typed) in
-    let whole = tagged-is (tag ys) ys (and-from _ _ (eq-eqb (tag ys) (tag ys) refl) (eq-eqb (size ys) (length ys) (component-parts ys (r .well) .1))) in
-    (
+    let whole = tagged-is (tag ys) ys (and-from _ _ (eq-eqb (tag ys) (tag ys) refl) (eq-eqb (size ys) (length ys) (component-parts ys (r .well) .1))) in (
       ap (λ k. tagged 0x1c (0x91 ∷ tagged k (component-contents s))) (t .0)
-      ∙ ap (λ l. tagged 0x1c (0x91 ∷ tagged (tag ys) l)) (t .1 .contents ∙ lies .1)
-      ∙ ap (λ l. tagged 0x1c (0x91 ∷ l)) (sym whole)
-      ∙ sym (head-is xs h),
+          ∙ ap (λ l. tagged 0x1c (0x91 ∷ tagged (tag ys) l)) (t .1 .contents ∙ lies .1)
+          ∙ ap (λ l. tagged 0x1c (0x91 ∷ l)) (sym whole)
+          ∙ sym (head-is xs h),
       t .1 .same,
     )
 

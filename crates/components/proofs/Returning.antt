@@ -64,7 +64,7 @@ pub two-values : (a b : ℤ) (xs : List ℕ) → values 5 (integer-octets a ++ (
 two-values a b xs =
     one-values 5 1 (omega arith) a (integer-octets b ++ xs)
     ∙ ap (λ l. record { octets = integer-octets a; place = 5 } ∷ l)
-      (one-values (5 + length (integer-octets a)) 1 (omega arith) b xs ∙ ap (λ q. record { octets = integer-octets b; place = 5 + length (integer-octets a) } ∷ values q xs) (add-assoc 5 (length (integer-octets a)) (length (integer-octets b))))
+    (one-values (5 + length (integer-octets a)) 1 (omega arith) b xs ∙ ap (λ q. record { octets = integer-octets b; place = 5 + length (integer-octets a) } ∷ values q xs) (add-assoc 5 (length (integer-octets a)) (length (integer-octets b))))
 
 pub two-list : (a b : ℤ) (xs : List ℕ) → bad-list 7 5 (integer-octets a ++ (integer-octets b ++ xs)) ≡ bad-list 7 (behind-two a b) xs
 two-list a b xs =
@@ -84,25 +84,25 @@ pub reads-fit : (n p : ℕ) (o : Option Part) → bad-list n p (optional-octets 
 reads-fit n p None well is = tt
 reads-fit n p (Some v) well is = alone (v .octets) well is
   where
-  alone : (xs : List ℕ) → bad-list n p xs ≡ None → at-most-one any (values p xs) ≡ Ok (Some (record { octets = xs; place = p })) → One n xs
-  alone [] well is = let e = ap (at-most-one any) (no-values p [] refl) in let no : _≡_ {A = ℕ} 0 1 = cc in absurd (omega arith)
-  alone (x ∷ xs) well is =
-      let ys = x ∷ xs in
-      let some : 0 < length ys = omega arith in
-      let parts = well-parts n p ys some well in
-      let whole = well-whole n p ys (parts .0) in
-      let step = values-step p ys some in
-      let same : front ys ≡ ys =
-          ⊎-elim
-          (λ none. let e = sym step ∙ none .0 in let no : _≡_ {A = ℕ} 0 1 = cc in absurd (omega arith))
-          (λ one.
-              let e = sym step ∙ one .2 in
-              let here : _≡_ {A = Part} (record { octets = front ys; place = p }) (one .0) = cc in
-              let read : one .0 ≡ one .1 = cc in
-              let asked : _≡_ {A = Part} (record { octets = ys; place = p }) (one .1) = cc in
-              ap (λ v. v .octets) (here ∙ read ∙ sym asked))
-          (one-parts any (values p ys) (Some (record { octets = ys; place = p })) is) in
-      record { well = value-moves n p 0 ys (parts .0); all = sym (front-length ys whole) ∙ ap length same }
+    alone : (xs : List ℕ) → bad-list n p xs ≡ None → at-most-one any (values p xs) ≡ Ok (Some (record { octets = xs; place = p })) → One n xs
+    alone [] well is = let e = ap (at-most-one any) (no-values p [] refl) in let no : _≡_ {A = ℕ} 0 1 = cc in absurd (omega arith)
+    alone (x ∷ xs) well is =
+        let ys = x ∷ xs in
+        let some : 0 < length ys = omega arith in
+        let parts = well-parts n p ys some well in
+        let whole = well-whole n p ys (parts .0) in
+        let step = values-step p ys some in
+        let same : front ys ≡ ys =
+        ⊎-elim
+        (λ none. let e = sym step ∙ none .0 in let no : _≡_ {A = ℕ} 0 1 = cc in absurd (omega arith))
+        (λ one.
+        let e = sym step ∙ one .2 in
+        let here : _≡_ {A = Part} (record { octets = front ys; place = p }) (one .0) = cc in
+        let read : one .0 ≡ one .1 = cc in
+        let asked : _≡_ {A = Part} (record { octets = ys; place = p }) (one .1) = cc in
+        ap (λ v. v .octets) (here ∙ read ∙ sym asked))
+        (one-parts any (values p ys) (Some (record { octets = ys; place = p })) is) in
+        record { well = value-moves n p 0 ys (parts .0); all = sym (front-length ys whole) ∙ ap length same }
 
 -- two INTEGERs that read, and what comes behind them
 pub two-typed : (made : ℤ → ℤ → Option Part → Said) (end : ℕ) (a b : ℤ) (p q : ℕ) (us : List Part) → SFits w16 a → SFits w16 b

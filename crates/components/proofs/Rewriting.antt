@@ -63,21 +63,21 @@ two n v w us a b o lie all v-is w-is o-is =
     let wb = integer-writes (w .octets) b (all-front _ (w .octets) (together us) rest) w-is in
     last us o o-is (lie .2 .2) va wb
   where
-  both : integer-octets a ≡ v .octets → integer-octets b ≡ w .octets → (l : List ℕ) → integer-octets a ++ (integer-octets b ++ l) ≡ v .octets ++ (w .octets ++ l)
-  both va wb l = ap (λ m. m ++ (integer-octets b ++ l)) va ∙ ap (λ m. v .octets ++ (m ++ l)) wb
+    both : integer-octets a ≡ v .octets → integer-octets b ≡ w .octets → (l : List ℕ) → integer-octets a ++ (integer-octets b ++ l) ≡ v .octets ++ (w .octets ++ l)
+    both va wb l = ap (λ m. m ++ (integer-octets b ++ l)) va ∙ ap (λ m. v .octets ++ (m ++ l)) wb
 
-  last : (us : List Part) (o : Option Part) → at-most-one any us ≡ Ok o → Lie n (5 + length (v .octets) + length (w .octets)) us → integer-octets a ≡ v .octets → integer-octets b ≡ w .octets → Two (v ∷ w ∷ us) a b o
-  last [] None is lie va wb = record { octets = both va wb []; place = refl }
-  last [] (Some x) is lie va wb = let no : _≡_ {A = ℕ} 0 1 = cc in absurd (omega arith)
-  last (u ∷ []) None is lie va wb = let no : _≡_ {A = ℕ} 0 1 = cc in absurd (omega arith)
-  last (u ∷ []) (Some x) is lie va wb =
-      let same : u ≡ x = cc in
-      let there : u .place ≡ 5 + (length (integer-octets a) + length (integer-octets b)) = omega (arith, lie .0, ap length va, ap length wb) in
-      record {
-        octets = both va wb (x .octets) ∙ ap (λ l. v .octets ++ (w .octets ++ l)) (ap (λ y. y .octets) (sym same) ∙ sym (append-nil (u .octets)));
-        place = ap Some (at-place _ x (ap (λ y. y .place) (sym same) ∙ there));
-      }
-  last (u ∷ t ∷ ts) o is lie va wb = let no : _≡_ {A = ℕ} 0 1 = cc in absurd (omega arith)
+    last : (us : List Part) (o : Option Part) → at-most-one any us ≡ Ok o → Lie n (5 + length (v .octets) + length (w .octets)) us → integer-octets a ≡ v .octets → integer-octets b ≡ w .octets → Two (v ∷ w ∷ us) a b o
+    last [] None is lie va wb = record { octets = both va wb []; place = refl }
+    last [] (Some x) is lie va wb = let no : _≡_ {A = ℕ} 0 1 = cc in absurd (omega arith)
+    last (u ∷ []) None is lie va wb = let no : _≡_ {A = ℕ} 0 1 = cc in absurd (omega arith)
+    last (u ∷ []) (Some x) is lie va wb =
+        let same : u ≡ x = cc in
+        let there : u .place ≡ 5 + (length (integer-octets a) + length (integer-octets b)) = omega (arith, lie .0, ap length va, ap length wb) in
+        record {
+          octets = both va wb (x .octets) ∙ ap (λ l. v .octets ++ (w .octets ++ l)) (ap (λ y. y .octets) (sym same) ∙ sym (append-nil (u .octets)));
+          place = ap Some (at-place _ x (ap (λ y. y .place) (sym same) ∙ there));
+        }
+    last (u ∷ t ∷ ts) o is lie va wb = let no : _≡_ {A = ℕ} 0 1 = cc in absurd (omega arith)
 
 -- an invoke and an error have two INTEGERs and at most one value; `made` is the component made of them
 module _ (made : ℤ → ℤ → Option Part → Said) (n end : ℕ) (vs : List Part) (s : Said) (lie : Lie n 5 vs) (all : Octets (together vs)) where
@@ -113,48 +113,50 @@ pub code-rewrites : (t : ℕ) (xs : List ℕ) (code : ℕ) → code-under t xs �
 code-rewrites t xs code is =
     ⊎-elim
     (λ there.
-        let parts = and-parts (is-tagged t xs) (eqb (length xs) 3) there in
-        let value : getD xs 2 0 ≡ code = some-same (sym (cond-true (is-tagged t xs && eqb (length xs) 3) (Some (getD xs 2 0)) None there) ∙ is) in
-        sym (tagged-is t xs (parts .0) ∙ ap (tagged t) (one-left xs (eqb-true (length xs) 3 (parts .1)) ∙ ap (λ c. c ∷ []) value)))
+    let parts = and-parts (is-tagged t xs) (eqb (length xs) 3) there in
+    let value : getD xs 2 0 ≡ code = some-same (sym (cond-true (is-tagged t xs && eqb (length xs) 3) (Some (getD xs 2 0)) None there) ∙ is) in
+    sym (tagged-is t xs (parts .0) ∙ ap (tagged t) (one-left xs (eqb-true (length xs) 3 (parts .1)) ∙ ap (λ c. c ∷ []) value)))
     (λ not-there. let e = sym (cond-false (is-tagged t xs && eqb (length xs) 3) (Some (getD xs 2 0)) None not-there) ∙ is in let no : _≡_ {A = ℕ} 0 1 = cc in absurd (omega arith))
     (cases-bool (is-tagged t xs && eqb (length xs) 3))
   where
-  some-same : {a b : ℕ} → Some a ≡ Some b → a ≡ b
-  some-same e = cc
-  one-left : (xs : List ℕ) → length xs ≡ 3 → drop 2 xs ≡ getD xs 2 0 ∷ []
-  one-left xs long = let inside : 2 < length xs = omega arith in drop-more xs 2 0 inside ∙ ap (λ l. getD xs 2 0 ∷ l) (drop-all 3 xs (omega arith))
+    some-same : {a b : ℕ} → Some a ≡ Some b → a ≡ b
+    some-same e = cc
+
+    one-left : (xs : List ℕ) → length xs ≡ 3 → drop 2 xs ≡ getD xs 2 0 ∷ []
+    one-left xs long = let inside : 2 < length xs = omega arith in drop-more xs 2 0 inside ∙ ap (λ l. getD xs 2 0 ∷ l) (drop-all 3 xs (omega arith))
 
 -- the problem of a reject
 problem-rewrites : (xs : List ℕ) (why : Problem) → as-problem xs ≡ Some why → problem-octets why ≡ xs
 problem-rewrites xs why is =
     by (code-under 0x80 xs) (code-under 0x81 xs) (code-under 0x82 xs) (code-under 0x83 xs) (code-rewrites 0x80 xs) (code-rewrites 0x81 xs) (code-rewrites 0x82 xs) (code-rewrites 0x83 xs) is
   where
-  by : (a b c d : Option ℕ) → ((code : ℕ) → a ≡ Some code → tagged 0x80 (code ∷ []) ≡ xs) → ((code : ℕ) → b ≡ Some code → tagged 0x81 (code ∷ []) ≡ xs)
-      → ((code : ℕ) → c ≡ Some code → tagged 0x82 (code ∷ []) ≡ xs) → ((code : ℕ) → d ≡ Some code → tagged 0x83 (code ∷ []) ≡ xs)
-      → either (mapped problem.General a) (either (mapped problem.Invoke b) (either (mapped problem.ReturnResult c) (mapped problem.ReturnError d))) ≡ Some why → problem-octets why ≡ xs
-  by (Some code) b c d wa wb wc wd e = let same : problem.General code ≡ why = cc in ap problem-octets (sym same) ∙ wa code refl
-  by None (Some code) c d wa wb wc wd e = let same : problem.Invoke code ≡ why = cc in ap problem-octets (sym same) ∙ wb code refl
-  by None None (Some code) d wa wb wc wd e = let same : problem.ReturnResult code ≡ why = cc in ap problem-octets (sym same) ∙ wc code refl
-  by None None None (Some code) wa wb wc wd e = let same : problem.ReturnError code ≡ why = cc in ap problem-octets (sym same) ∙ wd code refl
-  by None None None None wa wb wc wd e = let no : _≡_ {A = ℕ} 0 1 = cc in absurd (omega arith)
+    by : (a b c d : Option ℕ) → ((code : ℕ) → a ≡ Some code → tagged 0x80 (code ∷ []) ≡ xs) → ((code : ℕ) → b ≡ Some code → tagged 0x81 (code ∷ []) ≡ xs)
+        → ((code : ℕ) → c ≡ Some code → tagged 0x82 (code ∷ []) ≡ xs) → ((code : ℕ) → d ≡ Some code → tagged 0x83 (code ∷ []) ≡ xs)
+        → either (mapped problem.General a) (either (mapped problem.Invoke b) (either (mapped problem.ReturnResult c) (mapped problem.ReturnError d))) ≡ Some why → problem-octets why ≡ xs
+    by (Some code) b c d wa wb wc wd e = let same : problem.General code ≡ why = cc in ap problem-octets (sym same) ∙ wa code refl
+    by None (Some code) c d wa wb wc wd e = let same : problem.Invoke code ≡ why = cc in ap problem-octets (sym same) ∙ wb code refl
+    by None None (Some code) d wa wb wc wd e = let same : problem.ReturnResult code ≡ why = cc in ap problem-octets (sym same) ∙ wc code refl
+    by None None None (Some code) wa wb wc wd e = let same : problem.ReturnError code ≡ why = cc in ap problem-octets (sym same) ∙ wd code refl
+    by None None None None wa wb wc wd e = let no : _≡_ {A = ℕ} 0 1 = cc in absurd (omega arith)
 
 -- the id of a reject
 id-rewrites : (v : Part) (id : Option ℤ) → Octets (v .octets) → integer-or-null v ≡ Some id → id-octets id ≡ v .octets
 id-rewrites v id all is =
     ⊎-elim
     (λ null.
-        let parts = and-parts (is-tagged 5 (v .octets)) (eqb (length (v .octets)) 2) null in
-        let none : None ≡ id = some-same (sym (cond-true (is-tagged 5 (v .octets) && eqb (length (v .octets)) 2) (Some None) (mapped Some (an-integer v)) null) ∙ is) in
-        let empty = drop-all 2 (v .octets) (omega (arith, eqb-true (length (v .octets)) 2 (parts .1))) in
-        ap id-octets (sym none) ∙ sym (tagged-is 5 (v .octets) (parts .0) ∙ ap (tagged 5) empty))
+    let parts = and-parts (is-tagged 5 (v .octets)) (eqb (length (v .octets)) 2) null in
+    let none : None ≡ id = some-same (sym (cond-true (is-tagged 5 (v .octets) && eqb (length (v .octets)) 2) (Some None) (mapped Some (an-integer v)) null) ∙ is) in
+    let empty = drop-all 2 (v .octets) (omega (arith, eqb-true (length (v .octets)) 2 (parts .1))) in
+    ap id-octets (sym none) ∙ sym (tagged-is 5 (v .octets) (parts .0) ∙ ap (tagged 5) empty))
     (λ other. number-of (an-integer v) (λ n. integer-writes (v .octets) n all) id (sym (cond-false (is-tagged 5 (v .octets) && eqb (length (v .octets)) 2) (Some None) (mapped Some (an-integer v)) other) ∙ is))
     (cases-bool (is-tagged 5 (v .octets) && eqb (length (v .octets)) 2))
   where
-  some-same : {a b : Option ℤ} → Some a ≡ Some b → a ≡ b
-  some-same e = cc
-  number-of : (o : Option ℤ) → ((n : ℤ) → o ≡ Some n → integer-octets n ≡ v .octets) → (id : Option ℤ) → mapped Some o ≡ Some id → id-octets id ≡ v .octets
-  number-of None writes id e = let no : _≡_ {A = ℕ} 0 1 = cc in absurd (omega arith)
-  number-of (Some n) writes id e = let same : Some n ≡ id = cc in ap id-octets (sym same) ∙ writes n refl
+    some-same : {a b : Option ℤ} → Some a ≡ Some b → a ≡ b
+    some-same e = cc
+
+    number-of : (o : Option ℤ) → ((n : ℤ) → o ≡ Some n → integer-octets n ≡ v .octets) → (id : Option ℤ) → mapped Some o ≡ Some id → id-octets id ≡ v .octets
+    number-of None writes id e = let no : _≡_ {A = ℕ} 0 1 = cc in absurd (omega arith)
+    number-of (Some n) writes id e = let same : Some n ≡ id = cc in ap id-octets (sym same) ∙ writes n refl
 
 pub reject-rewrites : (n end : ℕ) (vs : List Part) (s : Said) → Lie n 5 vs → Octets (together vs) → a-reject end vs ≡ Ok s → (component-tag s ≡ 0xa4) × Rewrites s vs
 reject-rewrites n end vs s lie all is =
@@ -177,30 +179,30 @@ answer-rewrites : (n : ℕ) (w : Part) (a : ℤ × Part) → Octets (w .octets) 
 answer-rewrites n w a all well is =
     ⊎-elim
     (λ sequence.
-        let inner = drop 2 (w .octets) in
-        let nested = sequence-well n (w .place) (w .octets) well sequence in
-        let lies = values-lie (length inner) (n - 1) (w .place + 2) inner (omega arith) nested in
-        let pair = sym (cond-true (is-tagged 0x30 (w .octets)) (integer-and-value (values (w .place + 2) inner)) None sequence) ∙ is in
-        let made = two-left (n - 1) (w .place + 2) (values (w .place + 2) inner) a (lies .0) (subst Octets (sym (lies .1)) (all-drop _ 2 (w .octets) all)) pair in
-        (sym (tagged-is 0x30 (w .octets) sequence ∙ ap (tagged 0x30) (sym (made .0 ∙ lies .1))), made .1))
+    let inner = drop 2 (w .octets) in
+    let nested = sequence-well n (w .place) (w .octets) well sequence in
+    let lies = values-lie (length inner) (n - 1) (w .place + 2) inner (omega arith) nested in
+    let pair = sym (cond-true (is-tagged 0x30 (w .octets)) (integer-and-value (values (w .place + 2) inner)) None sequence) ∙ is in
+    let made = two-left (n - 1) (w .place + 2) (values (w .place + 2) inner) a (lies .0) (subst Octets (sym (lies .1)) (all-drop _ 2 (w .octets) all)) pair in
+    (sym (tagged-is 0x30 (w .octets) sequence ∙ ap (tagged 0x30) (sym (made .0 ∙ lies .1))), made .1))
     (λ other. let e = sym (cond-false (is-tagged 0x30 (w .octets)) (integer-and-value (values (w .place + 2) (drop 2 (w .octets)))) None other) ∙ is in let no : _≡_ {A = ℕ} 0 1 = cc in absurd (omega arith))
     (cases-bool (is-tagged 0x30 (w .octets)))
   where
-  integer-with : (v u : Part) (a : ℤ × Part) (o : Option ℤ) → mapped (λ k. (k, u)) o ≡ Some a → (o ≡ Some (a .0)) × (u ≡ a .1)
-  integer-with v u a None e = let no : _≡_ {A = ℕ} 0 1 = cc in absurd (omega arith)
-  integer-with v u a (Some k) e = let same : _≡_ {A = ℤ × Part} (k, u) a = cc in (ap (λ p. Some (p .0)) same, ap (λ p. p .1) same)
-  two-left : (n p : ℕ) (vs : List Part) (a : ℤ × Part) → Lie n p vs → Octets (together vs) → integer-and-value vs ≡ Some a
-      → (integer-octets (a .0) ++ a .1 .octets ≡ together vs) × (a .1 .place ≡ p + length (integer-octets (a .0)))
-  two-left n p [] a lie all e = let no : _≡_ {A = ℕ} 0 1 = cc in absurd (omega arith)
-  two-left n p (v ∷ []) a lie all e = let no : _≡_ {A = ℕ} 0 1 = cc in absurd (omega arith)
-  two-left n p (v ∷ u ∷ []) a lie all e =
-      let parts = integer-with v u a (an-integer v) e in
-      let writes = integer-writes (v .octets) (a .0) (all-front _ (v .octets) (together (u ∷ [])) all) (parts .0) in
-      (
-        ap (λ l. l ++ a .1 .octets) writes ∙ ap (λ l. v .octets ++ l) (ap (λ x. x .octets) (sym (parts .1)) ∙ sym (append-nil (u .octets))),
-        ap (λ x. x .place) (sym (parts .1)) ∙ lie .2 .0 ∙ ap (λ l. p + length l) (sym writes),
-      )
-  two-left n p (v ∷ u ∷ t ∷ ts) a lie all e = let no : _≡_ {A = ℕ} 0 1 = cc in absurd (omega arith)
+    integer-with : (v u : Part) (a : ℤ × Part) (o : Option ℤ) → mapped (λ k. (k, u)) o ≡ Some a → (o ≡ Some (a .0)) × (u ≡ a .1)
+    integer-with v u a None e = let no : _≡_ {A = ℕ} 0 1 = cc in absurd (omega arith)
+    integer-with v u a (Some k) e = let same : _≡_ {A = ℤ × Part} (k, u) a = cc in (ap (λ p. Some (p .0)) same, ap (λ p. p .1) same)
+
+    two-left : (n p : ℕ) (vs : List Part) (a : ℤ × Part) → Lie n p vs → Octets (together vs) → integer-and-value vs ≡ Some a
+        → (integer-octets (a .0) ++ a .1 .octets ≡ together vs) × (a .1 .place ≡ p + length (integer-octets (a .0)))
+    two-left n p [] a lie all e = let no : _≡_ {A = ℕ} 0 1 = cc in absurd (omega arith)
+    two-left n p (v ∷ []) a lie all e = let no : _≡_ {A = ℕ} 0 1 = cc in absurd (omega arith)
+    two-left n p (v ∷ u ∷ []) a lie all e =
+        let parts = integer-with v u a (an-integer v) e in
+        let writes = integer-writes (v .octets) (a .0) (all-front _ (v .octets) (together (u ∷ [])) all) (parts .0) in (
+          ap (λ l. l ++ a .1 .octets) writes ∙ ap (λ l. v .octets ++ l) (ap (λ x. x .octets) (sym (parts .1)) ∙ sym (append-nil (u .octets))),
+          ap (λ x. x .place) (sym (parts .1)) ∙ lie .2 .0 ∙ ap (λ l. p + length l) (sym writes),
+        )
+    two-left n p (v ∷ u ∷ t ∷ ts) a lie all e = let no : _≡_ {A = ℕ} 0 1 = cc in absurd (omega arith)
 
 pub result-rewrites : (n end : ℕ) (vs : List Part) (s : Said) → Lie n 5 vs → Octets (together vs) → a-result end vs ≡ Ok s → (component-tag s ≡ 0xa2) × Rewrites s vs
 result-rewrites n end vs s lie all is =
@@ -215,29 +217,28 @@ result-rewrites n end vs s lie all is =
     let Q : Said → Type 0 = λ y. (component-tag y ≡ 0xa2) × Rewrites y vs in
     subst Q (sym said) (refl, record { contents = rest .0 ∙ sym (ap together (v .1)); same = ap (result (i .0 .0)) (rest .1) })
   where
-  answered-rewrites : (id : ℤ) (v : Part) (ws : List Part) (o : Option (ℤ × Part)) → integer-octets id ≡ v .octets → Lie n (5 + length (v .octets)) ws → Octets (together ws) → at-most-one an-answer ws ≡ Ok o
-      → (integer-octets id ++ answer-octets o ≡ together (v ∷ ws)) × (mapped (answer-moved id) o ≡ o)
-  answered-rewrites id v ws o writes lie all is =
-      ⊎-elim
-      (λ none. (
-        ap (λ l. l ++ answer-octets o) writes ∙ ap (λ q. v .octets ++ answer-octets q) (none .1) ∙ ap (λ l. v .octets ++ together l) (sym (none .0)),
-        ap (mapped (answer-moved id)) (none .1) ∙ sym (none .1),
-      ))
-      (λ one.
-          let w = one .0 in
-          let a = one .1 in
-          let P : List Part → Type 0 = λ l. Lie n (5 + length (v .octets)) l × Octets (together l) in
-          let known = subst P (one .2) (lie, all) in
-          let wall = all-front _ (w .octets) [] (known .1) in
-          let Q : ℕ → Type 0 = λ q. bad-value n q (w .octets) ≡ None in
-          let here = known .0 .0 in
-          let made = answer-rewrites n w a wall (subst Q (sym here) (known .0 .1)) (one .3) in
-          let there : a .1 .place ≡ 5 + (length (integer-octets id) + (2 + length (integer-octets (a .0)))) = omega (arith, made .1, here, ap length writes) in
-          (
-            ap (λ l. l ++ answer-octets o) writes ∙ ap (λ q. v .octets ++ answer-octets q) (one .4) ∙ ap (λ l. v .octets ++ l) (made .0 ∙ sym (append-nil (w .octets))) ∙ ap (λ l. v .octets ++ together l) (sym (one .2)),
-            ap (mapped (answer-moved id)) (one .4) ∙ ap (λ u. Some (a .0, u)) (at-place _ (a .1) there) ∙ sym (one .4),
-          ))
-      (one-parts an-answer ws o is)
+    answered-rewrites : (id : ℤ) (v : Part) (ws : List Part) (o : Option (ℤ × Part)) → integer-octets id ≡ v .octets → Lie n (5 + length (v .octets)) ws → Octets (together ws) → at-most-one an-answer ws ≡ Ok o
+        → (integer-octets id ++ answer-octets o ≡ together (v ∷ ws)) × (mapped (answer-moved id) o ≡ o)
+    answered-rewrites id v ws o writes lie all is =
+        ⊎-elim
+        (λ none. (
+          ap (λ l. l ++ answer-octets o) writes ∙ ap (λ q. v .octets ++ answer-octets q) (none .1) ∙ ap (λ l. v .octets ++ together l) (sym (none .0)),
+          ap (mapped (answer-moved id)) (none .1) ∙ sym (none .1),
+        ))
+        (λ one.
+        let w = one .0 in
+        let a = one .1 in
+        let P : List Part → Type 0 = λ l. Lie n (5 + length (v .octets)) l × Octets (together l) in
+        let known = subst P (one .2) (lie, all) in
+        let wall = all-front _ (w .octets) [] (known .1) in
+        let Q : ℕ → Type 0 = λ q. bad-value n q (w .octets) ≡ None in
+        let here = known .0 .0 in
+        let made = answer-rewrites n w a wall (subst Q (sym here) (known .0 .1)) (one .3) in
+        let there : a .1 .place ≡ 5 + (length (integer-octets id) + (2 + length (integer-octets (a .0)))) = omega (arith, made .1, here, ap length writes) in (
+          ap (λ l. l ++ answer-octets o) writes ∙ ap (λ q. v .octets ++ answer-octets q) (one .4) ∙ ap (λ l. v .octets ++ l) (made .0 ∙ sym (append-nil (w .octets))) ∙ ap (λ l. v .octets ++ together l) (sym (one .2)),
+          ap (mapped (answer-moved id)) (one .4) ∙ ap (λ u. Some (a .0, u)) (at-place _ (a .1) there) ∙ sym (one .4),
+        ))
+        (one-parts an-answer ws o is)
 
 -- the component by its tag
 pub tag-rewrites : (t n end : ℕ) (vs : List Part) (s : Said) → Lie n 5 vs → Octets (together vs) → is-component-tag t ≡ true → by-tag t end vs ≡ Ok s → (component-tag s ≡ t) × Rewrites s vs
@@ -248,17 +249,22 @@ tag-rewrites t n end vs s lie all known is =
     told (reject-rewrites n end vs s lie all (sym (at-reject n1 n2 n3) ∙ is)) (last n1 n2 n3))
     (cases-eq t 0xa3)) (cases-eq t 0xa2)) (cases-eq t 0xa1)
   where
-  told : {k : ℕ} → (component-tag s ≡ k) × Rewrites s vs → t ≡ k → (component-tag s ≡ t) × Rewrites s vs
-  told r e = (r .0 ∙ sym e, r .1)
-  at-invoke : t ≡ 0xa1 → by-tag t end vs ≡ an-invoke end vs
-  at-invoke e = cond-true _ _ _ (eq-eqb t 0xa1 e)
-  at-result : (t ≡ 0xa1 → ⊥) → t ≡ 0xa2 → by-tag t end vs ≡ a-result end vs
-  at-result n1 e = cond-false _ _ _ (ne-eqb t 0xa1 n1) ∙ cond-true _ _ _ (eq-eqb t 0xa2 e)
-  at-error : (t ≡ 0xa1 → ⊥) → (t ≡ 0xa2 → ⊥) → t ≡ 0xa3 → by-tag t end vs ≡ an-error end vs
-  at-error n1 n2 e = cond-false _ _ _ (ne-eqb t 0xa1 n1) ∙ cond-false _ _ _ (ne-eqb t 0xa2 n2) ∙ cond-true _ _ _ (eq-eqb t 0xa3 e)
-  at-reject : (t ≡ 0xa1 → ⊥) → (t ≡ 0xa2 → ⊥) → (t ≡ 0xa3 → ⊥) → by-tag t end vs ≡ a-reject end vs
-  at-reject n1 n2 n3 = cond-false _ _ _ (ne-eqb t 0xa1 n1) ∙ cond-false _ _ _ (ne-eqb t 0xa2 n2) ∙ cond-false _ _ _ (ne-eqb t 0xa3 n3)
-  last : (t ≡ 0xa1 → ⊥) → (t ≡ 0xa2 → ⊥) → (t ≡ 0xa3 → ⊥) → t ≡ 0xa4
-  last n1 n2 n3 =
-      let parts = and-parts (leb 0xa1 t) (leb t 0xa4) known in
-      omega (arith, leb-true 0xa1 t (parts .0), leb-true t 0xa4 (parts .1), n1, n2, n3)
+    told : {k : ℕ} → (component-tag s ≡ k) × Rewrites s vs → t ≡ k → (component-tag s ≡ t) × Rewrites s vs
+    told r e = (r .0 ∙ sym e, r .1)
+
+    at-invoke : t ≡ 0xa1 → by-tag t end vs ≡ an-invoke end vs
+    at-invoke e = cond-true _ _ _ (eq-eqb t 0xa1 e)
+
+    at-result : (t ≡ 0xa1 → ⊥) → t ≡ 0xa2 → by-tag t end vs ≡ a-result end vs
+    at-result n1 e = cond-false _ _ _ (ne-eqb t 0xa1 n1) ∙ cond-true _ _ _ (eq-eqb t 0xa2 e)
+
+    at-error : (t ≡ 0xa1 → ⊥) → (t ≡ 0xa2 → ⊥) → t ≡ 0xa3 → by-tag t end vs ≡ an-error end vs
+    at-error n1 n2 e = cond-false _ _ _ (ne-eqb t 0xa1 n1) ∙ cond-false _ _ _ (ne-eqb t 0xa2 n2) ∙ cond-true _ _ _ (eq-eqb t 0xa3 e)
+
+    at-reject : (t ≡ 0xa1 → ⊥) → (t ≡ 0xa2 → ⊥) → (t ≡ 0xa3 → ⊥) → by-tag t end vs ≡ a-reject end vs
+    at-reject n1 n2 n3 = cond-false _ _ _ (ne-eqb t 0xa1 n1) ∙ cond-false _ _ _ (ne-eqb t 0xa2 n2) ∙ cond-false _ _ _ (ne-eqb t 0xa3 n3)
+
+    last : (t ≡ 0xa1 → ⊥) → (t ≡ 0xa2 → ⊥) → (t ≡ 0xa3 → ⊥) → t ≡ 0xa4
+    last n1 n2 n3 =
+        let parts = and-parts (leb 0xa1 t) (leb t 0xa4) known in
+        omega (arith, leb-true 0xa1 t (parts .0), leb-true t 0xa4 (parts .1), n1, n2, n3)

@@ -25,9 +25,23 @@ pub enum Problem {
 
 #[derive(Clone, Copy)]
 pub enum Component<'a> {
-    Invoke { id: i16, operation: i16, argument: Option<Parameter<'a>> },
-    ReturnResult { id: i16, answer: Option<Answer<'a>> },
-    ReturnError { id: i16, error: i16, parameter: Option<Parameter<'a>> },
+    Invoke {
+        id: i16,
+        operation: i16,
+        argument: Option<Parameter<'a>>,
+    },
+    ReturnResult {
+        id: i16,
+        answer: Option<Answer<'a>>,
+    },
+    ReturnError {
+        id: i16,
+        error: i16,
+        parameter: Option<Parameter<'a>>,
+    },
     // The invoke id is NULL where the rejected component had none that could be read.
-    Reject { id: Option<i16>, problem: Problem },
+    Reject {
+        id: Option<i16>,
+        problem: Problem,
+    },
 }

@@ -27,19 +27,34 @@ fn behind_head(octets: &[u8]) -> Result<&[u8], Fault>
     ensures { λ r. ⌜ Cases r (λ s. (head-fault (now (octets .entry)) ≡ None) × (now s ≡ drop 3 (now (octets .entry)))) (λ f. head-fault (now (octets .entry)) ≡ Some f) ⌝ }
 {
     let [identifier, length, profile, component @ ..] = octets else {
-        return Err(Fault { cause: Cause::Count, place: octets.len() });
+        return Err(Fault {
+            cause: Cause::Count,
+            place: octets.len(),
+        });
     };
     if octets.len() > 132 {
-        return Err(Fault { cause: Cause::Count, place: octets.len() });
+        return Err(Fault {
+            cause: Cause::Count,
+            place: octets.len(),
+        });
     }
     if *identifier != 0x1c {
-        return Err(Fault { cause: Cause::Identifier, place: 0 });
+        return Err(Fault {
+            cause: Cause::Identifier,
+            place: 0,
+        });
     }
     if *length as usize != octets.len() - 2 {
-        return Err(Fault { cause: Cause::Length, place: 1 });
+        return Err(Fault {
+            cause: Cause::Length,
+            place: 1,
+        });
     }
     if *profile != 0x91 {
-        return Err(Fault { cause: Cause::Profile, place: 2 });
+        return Err(Fault {
+            cause: Cause::Profile,
+            place: 2,
+        });
     }
     Ok(component)
 }
@@ -51,8 +66,14 @@ fn check_component(octets: &[u8]) -> Result<(), Fault>
 {
     match check_structure(octets, 3, 8) {
         Ok(end) if end == octets.len() => Ok(()),
-        Ok(place) => Err(Fault { cause: Cause::Structure, place }),
-        Err(place) => Err(Fault { cause: Cause::Structure, place }),
+        Ok(place) => Err(Fault {
+            cause: Cause::Structure,
+            place,
+        }),
+        Err(place) => Err(Fault {
+            cause: Cause::Structure,
+            place,
+        }),
     }
 }
 
@@ -105,7 +126,10 @@ pub fn read_element(octets: &[u8]) -> Result<Component<'_>, Fault>
 {
     let component = behind_head(octets)?;
     if !has_component_tag(component) {
-        return Err(Fault { cause: Cause::Tag, place: 3 });
+        return Err(Fault {
+            cause: Cause::Tag,
+            place: 3,
+        });
     }
     check_component(octets)?;
     read_component(component)
@@ -118,7 +142,11 @@ fn invoke(values: Values<'_>) -> Result<Component<'_>, Fault>
     let (id, rest) = values.integer()?;
     let (operation, rest) = rest.integer()?;
     let argument = rest.at_most_one()?;
-    Ok(Component::Invoke { id, operation, argument })
+    Ok(Component::Invoke {
+        id,
+        operation,
+        argument,
+    })
 }
 
 fn return_result(values: Values<'_>) -> Result<Component<'_>, Fault>
@@ -137,7 +165,11 @@ fn return_error(values: Values<'_>) -> Result<Component<'_>, Fault>
     let (id, rest) = values.integer()?;
     let (error, rest) = rest.integer()?;
     let parameter = rest.at_most_one()?;
-    Ok(Component::ReturnError { id, error, parameter })
+    Ok(Component::ReturnError {
+        id,
+        error,
+        parameter,
+    })
 }
 
 fn reject(values: Values<'_>) -> Result<Component<'_>, Fault>

@@ -28,7 +28,10 @@ pub(crate) struct Values<'a> {
 fn mistyped(place: usize) -> Fault
     ensures { λ r. ⌜ r ≡ at Mistyped place ⌝ }
 {
-    Fault { cause: Cause::Mistyped, place }
+    Fault {
+        cause: Cause::Mistyped,
+        place,
+    }
 }
 
 impl<'a> Values<'a> {
@@ -39,7 +42,13 @@ impl<'a> Values<'a> {
     {
         let (octets, rest) = read_value(self.rest)?;
         let place = self.place;
-        Some((Parameter { octets, place }, Values { rest, place: place + octets.len() }))
+        Some((
+            Parameter { octets, place },
+            Values {
+                rest,
+                place: place + octets.len(),
+            },
+        ))
     }
 
     // Nothing may be left.
@@ -144,7 +153,10 @@ fn answer(value: Parameter<'_>) -> Option<Answer<'_>>
     ensures { λ r. ⌜ mapped answered r ≡ an-answer (part (value .entry)) ⌝ }
 {
     let rest = sequence(value.octets)?;
-    let values = Values { rest, place: value.place + 2 };
+    let values = Values {
+        rest,
+        place: value.place + 2,
+    };
     let Ok((operation, last)) = values.integer() else {
         return None;
     };
@@ -152,5 +164,8 @@ fn answer(value: Parameter<'_>) -> Option<Answer<'_>>
         return None;
     };
     let parameter = found?;
-    Some(Answer { operation, parameter })
+    Some(Answer {
+        operation,
+        parameter,
+    })
 }

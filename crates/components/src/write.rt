@@ -16,8 +16,8 @@ use crate::component::Answer;
 use crate::component::Component;
 use crate::component::Parameter;
 use crate::component::Problem;
-use ber::is_short;
 use ber::check_structure;
+use ber::is_short;
 
 // Why nothing was written.
 #[derive(Clone, Copy)]
@@ -58,7 +58,10 @@ struct Layout<'a> {
 fn nothing() -> Short
     ensures { λ r. ⌜ Holds r [] ⌝ }
 {
-    Short { octets: [0, 0, 0, 0, 0, 0], length: 0 }
+    Short {
+        octets: [0, 0, 0, 0, 0, 0],
+        length: 0,
+    }
 }
 
 fn short_integer(n: i16) -> Short
@@ -67,9 +70,15 @@ fn short_integer(n: i16) -> Short
 {
     let [high, low] = n.to_be_bytes();
     if is_short(n) {
-        Short { octets: [0x02, 0x01, low, 0, 0, 0], length: 3 }
+        Short {
+            octets: [0x02, 0x01, low, 0, 0, 0],
+            length: 3,
+        }
     } else {
-        Short { octets: [0x02, 0x02, high, low, 0, 0], length: 4 }
+        Short {
+            octets: [0x02, 0x02, high, low, 0, 0],
+            length: 4,
+        }
     }
 }
 
@@ -79,7 +88,10 @@ fn short_id(id: Option<i16>) -> Short
 {
     match id {
         Some(n) => short_integer(n),
-        None => Short { octets: [0x05, 0x00, 0, 0, 0, 0], length: 2 },
+        None => Short {
+            octets: [0x05, 0x00, 0, 0, 0, 0],
+            length: 2,
+        },
     }
 }
 
@@ -92,7 +104,10 @@ fn short_problem(problem: Problem) -> Short
         Problem::ReturnResult(code) => (0x82, code),
         Problem::ReturnError(code) => (0x83, code),
     };
-    Short { octets: [tag, 0x01, code, 0, 0, 0], length: 3 }
+    Short {
+        octets: [tag, 0x01, code, 0, 0, 0],
+        length: 3,
+    }
 }
 
 // The head of a SEQUENCE that holds an operation and a parameter of `length` octets.
@@ -102,7 +117,10 @@ fn short_sequence(operation: i16, length: u8) -> Short
 {
     let n = short_integer(operation);
     let [a, b, c, d, _, _] = n.octets;
-    Short { octets: [0x30, n.length as u8 + length, a, b, c, d], length: 2 + n.length }
+    Short {
+        octets: [0x30, n.length as u8 + length, a, b, c, d],
+        length: 2 + n.length,
+    }
 }
 
 // The octets are one value, well structured, for which `levels` of nesting are left.
@@ -121,9 +139,11 @@ fn optional<'a>(parameter: Option<Parameter<'a>>) -> Option<&'a [u8]>
 {
     match parameter {
         None => Some(&[]),
-        Some(value) => if is_one_value(value.octets, 7) { Some(value.octets) } else { None },
+        Some(value) if is_one_value(value.octets, 7) => Some(value.octets),
+        Some(_) => None,
     }
 }
+
 // The head of an answer's SEQUENCE, with the operation, and the octets of its value; none for what is not one value.
 fn answered<'a>(answer: Answer<'a>) -> Option<(Short, &'a [u8])>
     ensures laid { λ r. ⌜ Cases r (One 6 (answer .entry .parameter .octets .now) → ⊥) (λ p. One 6 (answer .entry .parameter .octets .now) × Holds (p .0) (0x30 ∷ (len (integer-octets (answer .entry .operation)) + len (answer .entry .parameter .octets .now)) ∷ integer-octets (answer .entry .operation)) × (now (p .1) ≡ answer .entry .parameter .octets .now)) ⌝ }
@@ -143,23 +163,59 @@ impl<'a> Component<'a> {
         ensures sized { λ _. ⌜ Sized (said (now (self .entry))) ⌝ }
     {
         match *self {
-            Component::Invoke { id, operation, argument } => {
+            Component::Invoke {
+                id,
+                operation,
+                argument,
+            } => {
                 let parameter = optional(argument)?;
-                Some(Layout { tag: 0xa1, id: short_integer(id), middle: short_integer(operation), parameter })
+                Some(Layout {
+                    tag: 0xa1,
+                    id: short_integer(id),
+                    middle: short_integer(operation),
+                    parameter,
+                })
             }
             Component::ReturnResult { id, answer: None } => {
-                Some(Layout { tag: 0xa2, id: short_integer(id), middle: nothing(), parameter: &[] })
+                Some(Layout {
+                    tag: 0xa2,
+                    id: short_integer(id),
+                    middle: nothing(),
+                    parameter: &[],
+                })
             }
-            Component::ReturnResult { id, answer: Some(answer) } => {
+            Component::ReturnResult {
+                id,
+                answer: Some(answer),
+            } => {
                 let (middle, parameter) = answered(answer)?;
-                Some(Layout { tag: 0xa2, id: short_integer(id), middle, parameter })
+                Some(Layout {
+                    tag: 0xa2,
+                    id: short_integer(id),
+                    middle,
+                    parameter,
+                })
             }
-            Component::ReturnError { id, error, parameter } => {
+            Component::ReturnError {
+                id,
+                error,
+                parameter,
+            } => {
                 let parameter = optional(parameter)?;
-                Some(Layout { tag: 0xa3, id: short_integer(id), middle: short_integer(error), parameter })
+                Some(Layout {
+                    tag: 0xa3,
+                    id: short_integer(id),
+                    middle: short_integer(error),
+                    parameter,
+                })
             }
             Component::Reject { id, problem } => {
-                Some(Layout { tag: 0xa4, id: short_id(id), middle: short_problem(problem), parameter: &[] })
+                Some(Layout {
+                    tag: 0xa4,
+                    id: short_id(id),
+                    middle: short_problem(problem),
+                    parameter: &[],
+                })
             }
         }
     }

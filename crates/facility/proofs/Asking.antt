@@ -107,17 +107,17 @@ number-was : (xs : List ℕ) (n : ℕ) → a-number xs ≡ Some n → (xs ≡ nu
 number-was xs n is =
     ⊎-elim
     (λ there.
-        let tagged = and-parts (is-tagged 2 xs) (eqb (length xs) 3 && leb (getD xs 2 0) 127) there in
-        let short = and-parts (eqb (length xs) 3) (leb (getD xs 2 0) 127) (tagged .1) in
-        let value = sym (cond-true (is-tagged 2 xs && (eqb (length xs) 3 && leb (getD xs 2 0) 127)) (Some (getD xs 2 0)) None there) ∙ is in
-        let same : getD xs 2 0 ≡ n = some-same value in
-        let code = cond-true (is-tagged 2 xs && eqb (length xs) 3) (Some (getD xs 2 0)) None (and-from (is-tagged 2 xs) (eqb (length xs) 3) (tagged .0) (short .0)) ∙ value in
-        (sym (code-rewrites 2 xs n code), omega (arith, leb-true (getD xs 2 0) 127 (short .1))))
+    let tagged = and-parts (is-tagged 2 xs) (eqb (length xs) 3 && leb (getD xs 2 0) 127) there in
+    let short = and-parts (eqb (length xs) 3) (leb (getD xs 2 0) 127) (tagged .1) in
+    let value = sym (cond-true (is-tagged 2 xs && (eqb (length xs) 3 && leb (getD xs 2 0) 127)) (Some (getD xs 2 0)) None there) ∙ is in
+    let same : getD xs 2 0 ≡ n = some-same value in
+    let code = cond-true (is-tagged 2 xs && eqb (length xs) 3) (Some (getD xs 2 0)) None (and-from (is-tagged 2 xs) (eqb (length xs) 3) (tagged .0) (short .0)) ∙ value in
+    (sym (code-rewrites 2 xs n code), omega (arith, leb-true (getD xs 2 0) 127 (short .1))))
     (λ other. let e = sym (cond-false (is-tagged 2 xs && (eqb (length xs) 3 && leb (getD xs 2 0) 127)) (Some (getD xs 2 0)) None other) ∙ is in let no : _≡_ {A = ℕ} 0 1 = cc in absurd (omega arith))
     (cases-bool (is-tagged 2 xs && (eqb (length xs) 3 && leb (getD xs 2 0) 127)))
   where
-  some-same : {a b : ℕ} → Some a ≡ Some b → a ≡ b
-  some-same e = cc
+    some-same : {a b : ℕ} → Some a ≡ Some b → a ≡ b
+    some-same e = cc
 
 both-parts : (o q : Option ℕ) (a b : ℕ) → both o q ≡ Some (a, b) → (o ≡ Some a) × (q ≡ Some b)
 both-parts (Some x) (Some y) a b e = let same : _≡_ {A = ℕ × ℕ} (x, y) (a, b) = cc in (ap (λ p. Some (p .0)) same, ap (λ p. Some (p .1)) same)
@@ -129,14 +129,13 @@ numbers-were : (xs : List ℕ) (a b : ℕ) → two-numbers xs ≡ Some (a, b) �
 numbers-were xs a b is =
     ⊎-elim
     (λ there.
-        let parts = and-parts (is-tagged 0x30 xs) (eqb (length xs) 8) there in
-        let inner = both-parts (a-number (take 3 (drop 2 xs))) (a-number (drop 3 (drop 2 xs))) a b (sym (cond-true (is-tagged 0x30 xs && eqb (length xs) 8) (both (a-number (take 3 (drop 2 xs))) (a-number (drop 3 (drop 2 xs)))) None there) ∙ is) in
-        let first = number-was (take 3 (drop 2 xs)) a (inner .0) in
-        let second = number-was (drop 3 (drop 2 xs)) b (inner .1) in
-        (
-          tagged-is 0x30 xs (parts .0) ∙ ap (tagged 0x30) (sym (take-append-drop 3 (drop 2 xs)) ∙ ap (λ l. l ++ drop 3 (drop 2 xs)) (first .0) ∙ ap (λ l. number-octets a ++ l) (second .0)),
-          (first .1, second .1),
-        ))
+    let parts = and-parts (is-tagged 0x30 xs) (eqb (length xs) 8) there in
+    let inner = both-parts (a-number (take 3 (drop 2 xs))) (a-number (drop 3 (drop 2 xs))) a b (sym (cond-true (is-tagged 0x30 xs && eqb (length xs) 8) (both (a-number (take 3 (drop 2 xs))) (a-number (drop 3 (drop 2 xs)))) None there) ∙ is) in
+    let first = number-was (take 3 (drop 2 xs)) a (inner .0) in
+    let second = number-was (drop 3 (drop 2 xs)) b (inner .1) in (
+      tagged-is 0x30 xs (parts .0) ∙ ap (tagged 0x30) (sym (take-append-drop 3 (drop 2 xs)) ∙ ap (λ l. l ++ drop 3 (drop 2 xs)) (first .0) ∙ ap (λ l. number-octets a ++ l) (second .0)),
+      (first .1, second .1),
+    ))
     (λ other. let e = sym (cond-false (is-tagged 0x30 xs && eqb (length xs) 8) (both (a-number (take 3 (drop 2 xs))) (a-number (drop 3 (drop 2 xs)))) None other) ∙ is in let no : _≡_ {A = ℕ} 0 1 = cc in absurd (omega arith))
     (cases-bool (is-tagged 0x30 xs && eqb (length xs) 8))
 
@@ -153,13 +152,13 @@ operation-was : (code : ℤ) (op : Operation) → operation-of code ≡ Some op 
 operation-was (negsuc n) op is = let no : _≡_ {A = ℕ} 0 1 = cc in absurd (omega arith)
 operation-was (pos n) op is = ap pos (by op is)
   where
-  by : (op : Operation) → operation-of (pos n) ≡ Some op → n ≡ operation-code op
-  by operation.Begin e = grind (arith, tells)
-  by operation.Add e = grind (arith, tells)
-  by operation.Split e = grind (arith, tells)
-  by operation.Drop e = grind (arith, tells)
-  by operation.Isolate e = grind (arith, tells)
-  by operation.Reattach e = grind (arith, tells)
+    by : (op : Operation) → operation-of (pos n) ≡ Some op → n ≡ operation-code op
+    by operation.Begin e = grind (arith, tells)
+    by operation.Add e = grind (arith, tells)
+    by operation.Split e = grind (arith, tells)
+    by operation.Drop e = grind (arith, tells)
+    by operation.Isolate e = grind (arith, tells)
+    by operation.Reattach e = grind (arith, tells)
 
 -- what was asked, by operation and argument
 record Asked (op : Operation) (o : Option (List ℕ)) (r : Request) : Type 0 where
@@ -170,13 +169,13 @@ record Asked (op : Operation) (o : Option (List ℕ)) (r : Request) : Type 0 whe
 with-number : (op : Operation) (make : ℕ → Request) (r : Request) (xs : List ℕ) → ((n : ℕ) → n ≤ 127 → Asked op (Some (number-octets n)) (make n)) → mapped make (a-number xs) ≡ Some r → Asked op (Some xs) r
 with-number op make r xs each is = by (a-number xs) (number-was xs) is
   where
-  by : (o : Option ℕ) → ((n : ℕ) → o ≡ Some n → (xs ≡ number-octets n) × (n ≤ 127)) → mapped make o ≡ Some r → Asked op (Some xs) r
-  by None was e = let no : _≡_ {A = ℕ} 0 1 = cc in absurd (omega arith)
-  by (Some n) was e =
-      let known = was n refl in
-      let same : make n ≡ r = cc in
-      let there = each n (known .1) in
-      subst (Asked op (Some xs)) same (record { code = there .code; argument = ap Some (known .0) ∙ there .argument; range = there .range })
+    by : (o : Option ℕ) → ((n : ℕ) → o ≡ Some n → (xs ≡ number-octets n) × (n ≤ 127)) → mapped make o ≡ Some r → Asked op (Some xs) r
+    by None was e = let no : _≡_ {A = ℕ} 0 1 = cc in absurd (omega arith)
+    by (Some n) was e =
+        let known = was n refl in
+        let same : make n ≡ r = cc in
+        let there = each n (known .1) in
+        subst (Asked op (Some xs)) same (record { code = there .code; argument = ap Some (known .0) ∙ there .argument; range = there .range })
 
 asks-were : (op : Operation) (o : Option (List ℕ)) (r : Request) → asks op o ≡ Some r → Asked op o r
 asks-were operation.Begin None r is = let same : request.Begin None ≡ r = cc in subst (Asked operation.Begin None) same (record { code = refl; argument = refl; range = tt })
@@ -186,12 +185,12 @@ asks-were operation.Add (Some xs) r is = with-number operation.Add request.Add r
 asks-were operation.Split None r is = let no : _≡_ {A = ℕ} 0 1 = cc in absurd (omega arith)
 asks-were operation.Split (Some xs) r is = by (two-numbers xs) (numbers-were xs) is
   where
-  by : (o : Option (ℕ × ℕ)) → ((a b : ℕ) → o ≡ Some (a, b) → (xs ≡ tagged 0x30 (number-octets a ++ number-octets b)) × ((a ≤ 127) × (b ≤ 127))) → mapped (λ p. request.Split (p .0) (p .1)) o ≡ Some r → Asked operation.Split (Some xs) r
-  by None were e = let no : _≡_ {A = ℕ} 0 1 = cc in absurd (omega arith)
-  by (Some p) were e =
-      let known = were (p .0) (p .1) refl in
-      let same : request.Split (p .0) (p .1) ≡ r = cc in
-      subst (Asked operation.Split (Some xs)) same (record { code = refl; argument = ap Some (known .0); range = known .1 })
+    by : (o : Option (ℕ × ℕ)) → ((a b : ℕ) → o ≡ Some (a, b) → (xs ≡ tagged 0x30 (number-octets a ++ number-octets b)) × ((a ≤ 127) × (b ≤ 127))) → mapped (λ p. request.Split (p .0) (p .1)) o ≡ Some r → Asked operation.Split (Some xs) r
+    by None were e = let no : _≡_ {A = ℕ} 0 1 = cc in absurd (omega arith)
+    by (Some p) were e =
+        let known = were (p .0) (p .1) refl in
+        let same : request.Split (p .0) (p .1) ≡ r = cc in
+        subst (Asked operation.Split (Some xs)) same (record { code = refl; argument = ap Some (known .0); range = known .1 })
 asks-were operation.Drop None r is = let no : _≡_ {A = ℕ} 0 1 = cc in absurd (omega arith)
 asks-were operation.Drop (Some xs) r is = with-number operation.Drop request.Drop r xs (λ n small. record { code = refl; argument = refl; range = small }) is
 asks-were operation.Isolate None r is = let no : _≡_ {A = ℕ} 0 1 = cc in absurd (omega arith)
@@ -206,9 +205,9 @@ request-was id code o op r op-is r-is =
     let named = operation-was code op op-is ∙ ap pos (known .code) in
     ap (λ z. encoded (invoke id z o)) named ∙ ap (λ l. tagged 0x1c (0x91 ∷ tagged 0xa1 (integer-octets id ++ (integer-octets (pos (request-code r)) ++ l)))) (same o ∙ ap (λ q. optional-octets (mapped (λ xs. record { octets = xs; place = 0 }) q)) (known .argument))
   where
-  same : (o : Option Part) → optional-octets o ≡ optional-octets (mapped (λ xs. record { octets = xs; place = 0 }) (octets-in o))
-  same None = refl
-  same (Some v) = refl
+    same : (o : Option Part) → optional-octets o ≡ optional-octets (mapped (λ xs. record { octets = xs; place = 0 }) (octets-in o))
+    same None = refl
+    same (Some v) = refl
 
 -- whatever reads as a request has that request's octets
 module _ (xs : List ℕ) (all : Octets xs) (end : ℕ) (a : RequestInvoke) where

@@ -131,15 +131,29 @@ fn request_in(component: Component<'_>, end: usize) -> Result<RequestInvoke, Fau
     ensures asks { λ r. ⌜ r ≡ requested end (said (component .entry)) ⌝ }
     ensures sized { λ r. ⌜ made r (λ a. SFits w16 (a .id)) ⌝ }
 {
-    let Component::Invoke { id, operation, argument } = component else {
-        return Err(Fault { cause: Cause::NoInvoke, place: 3 });
+    let Component::Invoke {
+        id,
+        operation,
+        argument,
+    } = component
+    else {
+        return Err(Fault {
+            cause: Cause::NoInvoke,
+            place: 3,
+        });
     };
     let Some(operation) = operation_of(operation) else {
-        return Err(Fault { cause: Cause::Operation { id }, place: 5 + integer_size(id) });
+        return Err(Fault {
+            cause: Cause::Operation { id },
+            place: 5 + integer_size(id),
+        });
     };
     match asked(operation, argument) {
         Some(request) => Ok(RequestInvoke { id, request }),
-        None => Err(Fault { cause: Cause::Argument { id }, place: place_of(argument, end) }),
+        None => Err(Fault {
+            cause: Cause::Argument { id },
+            place: place_of(argument, end),
+        }),
     }
 }
 

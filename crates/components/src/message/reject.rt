@@ -29,7 +29,10 @@ pub(crate) fn reject_message(id: Option<i16>, problem: Problem) -> Message
     let mut octets = [0; 23];
     octets[0] = 0x62;
     match rejecting(id, problem).write(&mut octets[1..]) {
-        Ok(length) => Message { octets, length: 1 + length },
+        Ok(length) => Message {
+            octets,
+            length: 1 + length,
+        },
         Err(_) => unreachable(),
     }
 }

@@ -70,8 +70,8 @@ check-value-returns t c =
     let some : 0 < c .args .levels = omega (arith, c .if-levels-eq0 .left) in
     let asked = ap is-constructed (sym (ap (λ l. getD l 0 0) (found .1) ∙ front-tag ys)) ∙ sym (c .is-constructed .ensures) in
     let well : bad-value (c .args .levels) (w .pos) ys ≡ None =
-        elim (c .if-is-constructed .came) [
-          check-value-then-is-constructed·in-Continue-check-list v ↦ nested-window (w .pos) (w .end) (c .args .octets .now) (c .pre .within .0) (c .pre .within .1) (c .args .levels) _ some (found .0) (asked ∙ v .if-is-constructed .taken) long ∙ v .in-Continue-check-list .ensures tt .checked .0
-        | check-value-else-is-constructed v ↦ value-plain (c .args .levels) (w .pos) ys some (found .0) (asked ∙ v .if-is-constructed .left)
-        ] in
+    elim (c .if-is-constructed .came) [
+      | check-value-then-is-constructed·in-Continue-check-list v ↦ nested-window (w .pos) (w .end) (c .args .octets .now) (c .pre .within .0) (c .pre .within .1) (c .args .levels) _ some (found .0) (asked ∙ v .if-is-constructed .taken) long ∙ v .in-Continue-check-list .ensures tt .checked .0
+      | check-value-else-is-constructed v ↦ value-plain (c .args .levels) (w .pos) ys some (found .0) (asked ∙ v .if-is-constructed .left)
+    ] in
     record { end = search needs; checked = (well, (ap (λ n. w .pos + n) long, omega (arith, within, long))) }

@@ -56,8 +56,11 @@ returns c =
     let d3 = put-more m0 (h ++ i) m (c .put-at-2 .last .memory) (c .put-at-3 .last .memory) (c .put-at-2 .result) d2 at2 (c .put-at-3 .ensures .written) in
     let d4 = put-more m0 ((h ++ i) ++ m) (l .parameter .now) (c .put-at-3 .last .memory) (c .put .last .memory) (c .put-at-3 .result) d3 at3 (c .put .ensures .written) in
     let all = assembled m0 (c .put .last .memory) n (l .tag) i m (l .parameter .now) (component-contents s) parts long d4 in
-    record { sized = told .sized; written = (
-      readable-from s (told .sized) (told .laid .0) few,
-      omega (arith, at4),
-      all ∙ ap (λ t. tagged 0x1c (0x91 ∷ tagged t (component-contents s)) ++ drop (5 + length (component-contents s)) m0) (lays .tag) ∙ ap (λ k. encoded s ++ drop k m0) (sym at4),
-    ) }
+    record {
+      sized = told .sized;
+      written = (
+        readable-from s (told .sized) (told .laid .0) few,
+        omega (arith, at4),
+        all ∙ ap (λ t. tagged 0x1c (0x91 ∷ tagged t (component-contents s)) ++ drop (5 + length (component-contents s)) m0) (lays .tag) ∙ ap (λ k. encoded s ++ drop k m0) (sym at4),
+      );
+    }

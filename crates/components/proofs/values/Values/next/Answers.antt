@@ -17,8 +17,7 @@ returns c =
     let v = c .args .self in
     let found = c .in-Continue-octets .ensures tt in
     let all = taken-whole (v .place) (v .rest .now) (c .in-Continue-octets .octets .now) (c .in-Continue-octets .rest .now) (found .0) (found .1) (found .2) in
-    let well = taken-well (v .place) (v .rest .now) (c .in-Continue-octets .octets .now) (c .in-Continue-octets .rest .now) (found .0) (found .1) (found .2) (c .pre .levels) (c .pre .well) in
-    (
+    let well = taken-well (v .place) (v .rest .now) (c .in-Continue-octets .octets .now) (c .in-Continue-octets .rest .now) (found .0) (found .1) (found .2) (c .pre .levels) (c .pre .well) in (
       taken-values (v .place) (v .rest .now) (c .in-Continue-octets .octets .now) (c .in-Continue-octets .rest .now) (found .0) (found .1) (found .2),
       record { levels = c .pre .levels; well = well .1; within = omega (arith, c .pre .within) },
       omega arith,
