@@ -155,14 +155,15 @@ module _ (i j : ℕ) (xs : List ℕ) (forward : i ≤ j) (inside : j ≤ length 
   value-within whole = omega (arith, held-whole (between i j xs) whole, window-length)
 
   -- a constructed value is as well as the narrower window over its contents
-  pub nested-window : (n m : ℕ) → 0 < n → begins-with-value (between i j xs) ≡ true → is-constructed (tag (between i j xs)) ≡ true → m ≡ size (between i j xs) → bad-value n i (between i j xs) ≡ bad-list (n - 1) (i + 2) (between (i + 2) (i + m) xs)
-  nested-window n m some whole nested long =
+  pub nested-window : (n k m : ℕ) → 0 < n → k ≡ n - 1 → begins-with-value (between i j xs) ≡ true → is-constructed (tag (between i j xs)) ≡ true → m ≡ size (between i j xs) → bad-value n i (between i j xs) ≡ bad-list k (i + 2) (between (i + 2) (i + m) xs)
+  nested-window n k m some inner whole nested long =
       let within : i + m ≤ j = omega (arith, value-within whole) in
       let two : i + 2 ≤ i + m = omega arith in
       value-nested n i (between i j xs) some whole nested
-      ∙ ap (λ k. bad-list (n - 1) (i + 2) (drop 2 (take k (between i j xs)))) (sym long)
-      ∙ ap (λ ys. bad-list (n - 1) (i + 2) (drop 2 ys)) (window-front i j m xs within)
-      ∙ ap (bad-list (n - 1) (i + 2)) (window-behind i (i + m) 2 xs two)
+      ∙ ap (λ d. bad-list d (i + 2) (contents (between i j xs))) (sym inner)
+      ∙ ap (λ d. bad-list k (i + 2) (drop 2 (take d (between i j xs)))) (sym long)
+      ∙ ap (λ ys. bad-list k (i + 2) (drop 2 ys)) (window-front i j m xs within)
+      ∙ ap (bad-list k (i + 2)) (window-behind i (i + m) 2 xs two)
 
   -- behind a well-structured value the window goes on
   pub later-window : (n m : ℕ) → i < j → bad-value n i (between i j xs) ≡ None → m ≡ i + size (between i j xs) → m ≤ j → bad-list n i (between i j xs) ≡ bad-list n m (between m j xs)

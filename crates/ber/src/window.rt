@@ -1,7 +1,8 @@
 // Whether values are well structured, checked over a window of the octets that narrows to each nested value.
 ghost use mathlib.Core.Path.{_≡_};
-ghost use Prim.Native.Nat.{_≤_, _+_};
+ghost use Prim.Native.Nat.{_+_, _-_, _≤_, _<_};
 ghost use lib.ListN.{length, drop};
+ghost use Rattle.std.specs.Options.{Cases as Depth};
 ghost use Rattle.std.specs.Results.{Cases};
 ghost use Rattle.std.specs.Holes.{between};
 ghost use Rattle.std.specs.declared.option.Option.the-variants.{Some, None};
@@ -36,6 +37,13 @@ impl Drop for Nested<'_> {
     }
 }
 
+// The levels of nesting that are left inside a value; none where the value is nested too deep itself.
+fn inner_levels(levels: u8) -> Option<u8>
+    ensures { λ r. ⌜ Depth r (levels ≡ 0) (λ n. (0 < levels) × (n ≡ levels - 1)) ⌝ }
+{
+    levels.checked_sub(1)
+}
+
 // Passes over the value at the front of the window, or answers the place of the first badly structured value.
 fn check_value(octets: &[u8], window: &mut Window, levels: u8) -> Result<(), usize>
     requires within { ⌜ now window .pos ≤ now window .end ⌝ ∗ ⌜ now window .end ≤ length (now octets) ⌝ }
@@ -43,9 +51,9 @@ fn check_value(octets: &[u8], window: &mut Window, levels: u8) -> Result<(), usi
     ensures checked { λ r. ⌜ Cases r (λ _. (bad-value levels (now (window .entry) .pos) (between (now (window .entry) .pos) (now (window .entry) .end) (now (octets .entry))) ≡ None) × ((now (window .exit) .pos ≡ now (window .entry) .pos + size (between (now (window .entry) .pos) (now (window .entry) .end) (now (octets .entry)))) × (now (window .exit) .pos ≤ now (window .entry) .end))) (λ place. bad-value levels (now (window .entry) .pos) (between (now (window .entry) .pos) (now (window .entry) .end) (now (octets .entry))) ≡ Some place) ⌝ }
 {
     let place = window.pos;
-    if levels == 0 {
+    let Some(inner) = inner_levels(levels) else {
         return Err(place);
-    }
+    };
     let Some((value, _)) = read_value(&octets[window.pos..window.end]) else {
         return Err(place);
     };
@@ -55,7 +63,7 @@ fn check_value(octets: &[u8], window: &mut Window, levels: u8) -> Result<(), usi
         window.pos = place + 2;
         window.end = place + size;
         let nested = Nested { window, outer };
-        check_list(octets, nested.window, levels - 1)?;
+        check_list(octets, nested.window, inner)?;
     }
     window.pos = place + size;
     Ok(())

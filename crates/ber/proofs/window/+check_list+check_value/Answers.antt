@@ -38,40 +38,42 @@ check-list-returns t c =
       checked = cases-weaker (c .check-list .result) (c .check-list .ensures .checked) (λ _ well. (same ∙ well .0, well .1 ∙ told .end)) (λ place bad. same ∙ bad);
     }
 
-pub check-value-returns-then-levels-eq0 : need.check-value-returns-then-levels-eq0
-check-value-returns-then-levels-eq0 t c =
+pub check-value-returns-in-rest : need.check-value-returns-in-rest
+check-value-returns-in-rest t c =
     let w = c .args .window .now in
     let ys = between (w .pos) (w .end) (c .args .octets .now) in
-    record { end = search needs; checked = ap (λ n. bad-value n (w .pos) ys) (c .if-levels-eq0 .taken) ∙ no-level (w .pos) ys }
+    record { end = search needs; checked = ap (λ n. bad-value n (w .pos) ys) (c .in-rest .ensures tt) ∙ no-level (w .pos) ys }
 
-pub check-value-returns-in-rest : need.check-value-returns-in-rest
-check-value-returns-in-rest t c = record { end = search needs; checked = value-cut _ _ _ (omega (arith, c .if-levels-eq0 .left)) (c .in-rest .ensures tt) }
+pub check-value-returns-in-rest-read-value : need.check-value-returns-in-rest-read-value
+check-value-returns-in-rest-read-value t c =
+    record { end = search needs; checked = value-cut _ _ _ (c .in-Some .ensures tt .0) (c .in-rest-read-value .ensures tt) }
 
 pub check-value-returns-in-Break-check-list : need.check-value-returns-in-Break-check-list
 check-value-returns-in-Break-check-list t c =
     let p = err-from-errBy (c .from-residual .result) (c .from-residual .ensures .1) in
     let w = c .args .window .now in
     let ys = between (w .pos) (w .end) (c .args .octets .now) in
-    let found = c .in-Some .ensures tt in
+    let found = c .in-Some-read-value .ensures tt in
+    let deep = c .in-Some .ensures tt in
     let nested : is-constructed (tag ys) ≡ true = ap is-constructed (sym (ap (λ l. getD l 0 0) (found .1) ∙ front-tag ys)) ∙ sym (c .is-constructed .ensures) ∙ c .if-is-constructed .taken in
     let long = ap length (found .1) ∙ front-length ys (found .0) in
     rw (p .1, p .2) (record {
       end = search needs;
-      checked = nested-window (w .pos) (w .end) (c .args .octets .now) (c .pre .within .0) (c .pre .within .1) (c .args .levels) _ (omega (arith, c .if-levels-eq0 .left)) (found .0) nested long ∙ c .in-Break-check-list .ensures tt .checked;
+      checked = nested-window (w .pos) (w .end) (c .args .octets .now) (c .pre .within .0) (c .pre .within .1) (c .args .levels) _ _ (deep .0) (deep .1) (found .0) nested long ∙ c .in-Break-check-list .ensures tt .checked;
     })
 
 pub check-value-returns : need.check-value-returns
 check-value-returns t c =
     let w = c .args .window .now in
     let ys = between (w .pos) (w .end) (c .args .octets .now) in
-    let found = c .in-Some .ensures tt in
+    let found = c .in-Some-read-value .ensures tt in
+    let deep = c .in-Some .ensures tt in
     let long = ap length (found .1) ∙ front-length ys (found .0) in
     let within = value-within (w .pos) (w .end) (c .args .octets .now) (c .pre .within .0) (c .pre .within .1) (found .0) in
-    let some : 0 < c .args .levels = omega (arith, c .if-levels-eq0 .left) in
     let asked = ap is-constructed (sym (ap (λ l. getD l 0 0) (found .1) ∙ front-tag ys)) ∙ sym (c .is-constructed .ensures) in
     let well : bad-value (c .args .levels) (w .pos) ys ≡ None =
     elim (c .if-is-constructed .came) [
-      | check-value-then-is-constructed·in-Continue-check-list v ↦ nested-window (w .pos) (w .end) (c .args .octets .now) (c .pre .within .0) (c .pre .within .1) (c .args .levels) _ some (found .0) (asked ∙ v .if-is-constructed .taken) long ∙ v .in-Continue-check-list .ensures tt .checked .0
-      | check-value-else-is-constructed v ↦ value-plain (c .args .levels) (w .pos) ys some (found .0) (asked ∙ v .if-is-constructed .left)
+      | check-value-then-is-constructed·in-Continue-check-list v ↦ nested-window (w .pos) (w .end) (c .args .octets .now) (c .pre .within .0) (c .pre .within .1) (c .args .levels) _ _ (deep .0) (deep .1) (found .0) (asked ∙ v .if-is-constructed .taken) long ∙ v .in-Continue-check-list .ensures tt .checked .0
+      | check-value-else-is-constructed v ↦ value-plain (c .args .levels) (w .pos) ys (deep .0) (found .0) (asked ∙ v .if-is-constructed .left)
     ] in
     record { end = search needs; checked = (well, (ap (λ n. w .pos + n) long, omega (arith, within, long))) }
