@@ -10,6 +10,11 @@ tenth=$((count / 10))
 dir=$(mktemp -d)
 trap 'rm -rf "$dir"' EXIT
 
+if ! python3 -c 'import pyasn1' 2>/dev/null; then
+    echo "bench/decode.sh: the yardstick needs Python 3 with pyasn1 (Debian: python3-pyasn1)" >&2
+    exit 1
+fi
+
 python3 bench/lines.py "$count" "$seed" > "$dir/lines"
 head -n "$tenth" "$dir/lines" > "$dir/tenth"
 

@@ -45,7 +45,6 @@ or-none (Some p) = refl
 
 -- a component that is not too long is as well structured as its contents
 tagged-fault : (t : ℕ) (xs : List ℕ) → is-short-tag t ≡ true → is-constructed t ≡ true → length xs ≤ 127 → bad-component (tagged t xs) ≡ bad-list 7 5 xs
-unfolding bad-component
 tagged-fault t xs short nested few =
     let same = eq-eqb (2 + length xs) (length (tagged t xs)) (omega arith) in
     ap (or-else (bad-value 8 3 (tagged t xs))) (cond-true _ _ _ same)

@@ -23,22 +23,18 @@ use Rattle.ber.proofs.Taking.{both-none, well-whole}
 
 -- a value in it is at fault
 pub component-fault : (xs : List ℕ) (p : ℕ) → bad-value 8 3 xs ≡ Some p → bad-component xs ≡ Some p
-unfolding bad-component
 component-fault xs p bad = ap (λ o. or-else o (cond (eqb (size xs) (length xs)) None (Some (3 + size xs)))) bad
 
 -- something stands behind it
 pub component-surplus : (xs : List ℕ) → bad-value 8 3 xs ≡ None → (size xs ≡ length xs → ⊥) → bad-component xs ≡ Some (3 + size xs)
-unfolding bad-component
 component-surplus xs well more = ap (λ o. or-else o (cond (eqb (size xs) (length xs)) None (Some (3 + size xs)))) well ∙ cond-false _ _ _ (ne-eqb _ _ more)
 
 -- nothing is at fault
 pub component-well : (xs : List ℕ) → bad-value 8 3 xs ≡ None → size xs ≡ length xs → bad-component xs ≡ None
-unfolding bad-component
 component-well xs well all = ap (λ o. or-else o (cond (eqb (size xs) (length xs)) None (Some (3 + size xs)))) well ∙ cond-true _ _ _ (eq-eqb _ _ all)
 
 -- and then every value is well, and nothing stands behind it
 pub component-parts : (xs : List ℕ) → bad-component xs ≡ None → (bad-value 8 3 xs ≡ None) × (size xs ≡ length xs)
-unfolding bad-component
 component-parts xs well =
     let parts = both-none (bad-value 8 3 xs) (cond (eqb (size xs) (length xs)) None (Some (3 + size xs))) well in
     (parts .0, ⊎-elim (λ all. eqb-true (size xs) (length xs) all) (λ more. let e = sym (cond-false (eqb (size xs) (length xs)) None (Some (3 + size xs)) more) ∙ parts .1 in let no : _≡_ {A = ℕ} 0 1 = cc in absurd (omega arith)) (cases-bool (eqb (size xs) (length xs))))

@@ -18,7 +18,7 @@ use Rattle.components.specs.Typed.{an-invoke, a-result, an-error, a-reject}
 use Rattle.ber.specs.Value.{tag, size}
 
 -- the first fault of the component, which stands at place 3 and is the first of eight levels; or the first octet behind it
-unfoldable pub bad-component : List ℕ → Option ℕ
+abbrev pub bad-component : List ℕ → Option ℕ
 bad-component xs = or-else (bad-value 8 3 xs) (cond (eqb (size xs) (length xs)) None (Some (3 + size xs)))
 
 -- the component by its tag, A1 to A4, and its values
@@ -46,13 +46,16 @@ reading-component xs =
     (Err (at Tag 3))
 
 -- the fault of the head: from 3 to 132 octets, 1C, the number of octets after it, 91
-abbrev pub head-fault : List ℕ → Option Fault
-head-fault xs =
-    cond (ltb (length xs) 3 || ltb 132 (length xs)) (Some (at Count (length xs)))
-    (cond (not (eqb (getD xs 0 0) 0x1c)) (Some (at Identifier 0))
-    (cond (not (eqb (getD xs 1 0 + 2) (length xs))) (Some (at Length 1))
-    (cond (not (eqb (getD xs 2 0) 0x91)) (Some (at Profile 2))
+abbrev pub head-at-fault : ℕ → ℕ → ℕ → ℕ → Option Fault
+head-at-fault count identifier length′ profile =
+    cond (ltb count 3 || ltb 132 count) (Some (at Count count))
+    (cond (not (eqb identifier 0x1c)) (Some (at Identifier 0))
+    (cond (not (eqb (length′ + 2) count)) (Some (at Length 1))
+    (cond (not (eqb profile 0x91)) (Some (at Profile 2))
     None)))
+
+abbrev pub head-fault : List ℕ → Option Fault
+head-fault xs = head-at-fault (length xs) (getD xs 0 0) (getD xs 1 0) (getD xs 2 0)
 
 abbrev pub unless : Option Fault → Result Said Fault → Result Said Fault
 unless (Some fault) read = Err fault

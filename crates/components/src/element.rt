@@ -11,7 +11,7 @@ ghost use Rattle.components.specs.declared.fault.Cause.the-variants.{Structure
 ghost use Rattle.components.specs.Component.{said};
 ghost use Rattle.components.specs.Cursor.{left, end-of, Left};
 ghost use Rattle.components.specs.Faults.{at};
-ghost use Rattle.components.specs.Reading.{is-component-tag, bad-component, by-tag, head-fault, reading, read-as};
+ghost use Rattle.components.specs.Reading.{is-component-tag, bad-component, by-tag, head-at-fault, head-fault, reading, read-as};
 ghost use Rattle.ber.specs.Structure.{values};
 ghost use Rattle.components.specs.Typed.{an-invoke, a-result, an-error, a-reject};
 ghost use Rattle.ber.specs.Value.{tag};
@@ -21,6 +21,37 @@ use crate::fault::Cause;
 use crate::fault::Fault;
 use crate::values::Values;
 use ber::check_structure;
+
+// What is at fault in the head of an element of `count` octets, by its three octets.
+fn head_fault(count: usize, identifier: u8, length: u8, profile: u8) -> Option<Fault>
+    ensures { λ r. ⌜ r ≡ head-at-fault count identifier length profile ⌝ }
+{
+    if count < 3 || count > 132 {
+        return Some(Fault {
+            cause: Cause::Count,
+            place: count,
+        });
+    }
+    if identifier != 0x1c {
+        return Some(Fault {
+            cause: Cause::Identifier,
+            place: 0,
+        });
+    }
+    if length as usize + 2 != count {
+        return Some(Fault {
+            cause: Cause::Length,
+            place: 1,
+        });
+    }
+    if profile != 0x91 {
+        return Some(Fault {
+            cause: Cause::Profile,
+            place: 2,
+        });
+    }
+    None
+}
 
 // The octets behind the head 1C, length, 91: the component's place.
 fn behind_head(octets: &[u8]) -> Result<&[u8], Fault>
@@ -32,31 +63,10 @@ fn behind_head(octets: &[u8]) -> Result<&[u8], Fault>
             place: octets.len(),
         });
     };
-    if octets.len() > 132 {
-        return Err(Fault {
-            cause: Cause::Count,
-            place: octets.len(),
-        });
+    match head_fault(octets.len(), *identifier, *length, *profile) {
+        Some(fault) => Err(fault),
+        None => Ok(component),
     }
-    if *identifier != 0x1c {
-        return Err(Fault {
-            cause: Cause::Identifier,
-            place: 0,
-        });
-    }
-    if *length as usize != octets.len() - 2 {
-        return Err(Fault {
-            cause: Cause::Length,
-            place: 1,
-        });
-    }
-    if *profile != 0x91 {
-        return Err(Fault {
-            cause: Cause::Profile,
-            place: 2,
-        });
-    }
-    Ok(component)
 }
 
 // Every value of the component is well structured, and nothing stands behind the component.
