@@ -1,3 +1,4 @@
 pub mod Value
 pub mod Structure
 pub mod Integer
+pub mod Windows

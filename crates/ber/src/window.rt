@@ -1,13 +1,8 @@
 // Whether values are well structured, checked over a window of the octets that narrows to each nested value.
 ghost use mathlib.Core.Path.{_≡_};
-ghost use Prim.Native.Nat.{_+_, _-_, _≤_, _<_};
-ghost use lib.ListN.{length, drop};
-ghost use Rattle.std.specs.Options.{Cases as Depth};
-ghost use Rattle.std.specs.Results.{Cases};
-ghost use Rattle.std.specs.Holes.{between};
-ghost use Rattle.std.specs.declared.option.Option.the-variants.{Some, None};
-ghost use Rattle.ber.specs.Structure.{bad-value, bad-list};
-ghost use Rattle.ber.specs.Value.{size};
+ghost use Prim.Native.Nat.{_-_, _<_};
+ghost use Rattle.std.specs.Options.{Cases};
+ghost use Rattle.ber.specs.Windows.{Within, ValueChecked, ListChecked, StructureChecked};
 use crate::value::is_constructed;
 use crate::value::read_value;
 
@@ -39,16 +34,16 @@ impl Drop for Nested<'_> {
 
 // The levels of nesting that are left inside a value; none where the value is nested too deep itself.
 fn inner_levels(levels: u8) -> Option<u8>
-    ensures { λ r. ⌜ Depth r (levels ≡ 0) (λ n. (0 < levels) × (n ≡ levels - 1)) ⌝ }
+    ensures { λ r. ⌜ Cases r (levels ≡ 0) (λ n. (0 < levels) × (n ≡ levels - 1)) ⌝ }
 {
     levels.checked_sub(1)
 }
 
 // Passes over the value at the front of the window, or answers the place of the first badly structured value.
 fn check_value(octets: &[u8], window: &mut Window, levels: u8) -> Result<(), usize>
-    requires within { ⌜ now window .pos ≤ now window .end ⌝ ∗ ⌜ now window .end ≤ length (now octets) ⌝ }
+    requires within { ⌜ Within (now window) (now octets) ⌝ }
     ensures end { λ _. ⌜ now (window .exit) .end ≡ now (window .entry) .end ⌝ }
-    ensures checked { λ r. ⌜ Cases r (λ _. (bad-value levels (now (window .entry) .pos) (between (now (window .entry) .pos) (now (window .entry) .end) (now (octets .entry))) ≡ None) × ((now (window .exit) .pos ≡ now (window .entry) .pos + size (between (now (window .entry) .pos) (now (window .entry) .end) (now (octets .entry)))) × (now (window .exit) .pos ≤ now (window .entry) .end))) (λ place. bad-value levels (now (window .entry) .pos) (between (now (window .entry) .pos) (now (window .entry) .end) (now (octets .entry))) ≡ Some place) ⌝ }
+    ensures checked { λ r. ⌜ ValueChecked levels (now (octets .entry)) (now (window .entry)) (now (window .exit)) r ⌝ }
 {
     let place = window.pos;
     let Some(inner) = inner_levels(levels) else {
@@ -71,9 +66,9 @@ fn check_value(octets: &[u8], window: &mut Window, levels: u8) -> Result<(), usi
 
 // Passes over all values of the window, or answers the place of the first badly structured one.
 fn check_list(octets: &[u8], window: &mut Window, levels: u8) -> Result<(), usize>
-    requires within { ⌜ now window .pos ≤ now window .end ⌝ ∗ ⌜ now window .end ≤ length (now octets) ⌝ }
+    requires within { ⌜ Within (now window) (now octets) ⌝ }
     ensures end { λ _. ⌜ now (window .exit) .end ≡ now (window .entry) .end ⌝ }
-    ensures checked { λ r. ⌜ Cases r (λ _. (bad-list levels (now (window .entry) .pos) (between (now (window .entry) .pos) (now (window .entry) .end) (now (octets .entry))) ≡ None) × (now (window .exit) .pos ≡ now (window .entry) .end)) (λ place. bad-list levels (now (window .entry) .pos) (between (now (window .entry) .pos) (now (window .entry) .end) (now (octets .entry))) ≡ Some place) ⌝ }
+    ensures checked { λ r. ⌜ ListChecked levels (now (octets .entry)) (now (window .entry)) (now (window .exit)) r ⌝ }
 {
     if window.pos == window.end {
         return Ok(());
@@ -85,7 +80,7 @@ fn check_list(octets: &[u8], window: &mut Window, levels: u8) -> Result<(), usiz
 // The place behind the value that stands at a place, for which `levels` of nesting are left; or the place of the first
 // badly structured value in it.
 pub fn check_structure(octets: &[u8], place: usize, levels: u8) -> Result<usize, usize>
-    ensures { λ r. ⌜ Cases r (λ end. (bad-value levels place (drop place (now (octets .entry))) ≡ None) × (end ≡ place + size (drop place (now (octets .entry)))) × (end ≤ length (now (octets .entry)))) (λ bad. bad-value levels place (drop place (now (octets .entry))) ≡ Some bad) ⌝ }
+    ensures { λ r. ⌜ StructureChecked levels place (now (octets .entry)) r ⌝ }
 {
     if place > octets.len() {
         return Err(place);

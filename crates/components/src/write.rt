@@ -3,7 +3,7 @@ ghost use mathlib.Core.Path.{_≡_};
 ghost use mathlib.Core.Bool.{true, false};
 ghost use mathlib.Core.List.{[], _∷_, _++_};
 ghost use Prim.Native.Nat.{_+_, _≤_};
-ghost use lib.ListN.{length as len, take, drop};
+ghost use lib.ListN.{length, take, drop};
 ghost use mir.Syntax.{w16};
 ghost use mir.Val.{SFits};
 ghost use Rattle.std.specs.Options.{Cases, mapped};
@@ -66,7 +66,7 @@ fn nothing() -> Short
 
 fn short_integer(n: i16) -> Short
     ensures { λ r. ⌜ Holds r (integer-octets n) ⌝ }
-    ensures { λ r. ⌜ r .length ≡ len (integer-octets n) ⌝ }
+    ensures { λ r. ⌜ r .length ≡ length (integer-octets n) ⌝ }
 {
     let [high, low] = n.to_be_bytes();
     if is_short(n) {
@@ -110,15 +110,15 @@ fn short_problem(problem: Problem) -> Short
     }
 }
 
-// The head of a SEQUENCE that holds an operation and a parameter of `length` octets.
-fn short_sequence(operation: i16, length: u8) -> Short
-    requires { ⌜ length ≤ 129 ⌝ }
-    ensures { λ r. ⌜ Holds r (0x30 ∷ (len (integer-octets operation) + length) ∷ integer-octets operation) ⌝ }
+// The head of a SEQUENCE that holds an operation and a parameter of `count` octets.
+fn short_sequence(operation: i16, count: u8) -> Short
+    requires { ⌜ count ≤ 129 ⌝ }
+    ensures { λ r. ⌜ Holds r (0x30 ∷ (length (integer-octets operation) + count) ∷ integer-octets operation) ⌝ }
 {
     let n = short_integer(operation);
     let [a, b, c, d, _, _] = n.octets;
     Short {
-        octets: [0x30, n.length as u8 + length, a, b, c, d],
+        octets: [0x30, n.length as u8 + count, a, b, c, d],
         length: 2 + n.length,
     }
 }
@@ -146,7 +146,7 @@ fn optional<'a>(parameter: Option<Parameter<'a>>) -> Option<&'a [u8]>
 
 // The head of an answer's SEQUENCE, with the operation, and the octets of its value; none for what is not one value.
 fn answered<'a>(answer: Answer<'a>) -> Option<(Short, &'a [u8])>
-    ensures laid { λ r. ⌜ Cases r (One 6 (answer .entry .parameter .octets .now) → ⊥) (λ p. One 6 (answer .entry .parameter .octets .now) × Holds (p .0) (0x30 ∷ (len (integer-octets (answer .entry .operation)) + len (answer .entry .parameter .octets .now)) ∷ integer-octets (answer .entry .operation)) × (now (p .1) ≡ answer .entry .parameter .octets .now)) ⌝ }
+    ensures laid { λ r. ⌜ Cases r (One 6 (answer .entry .parameter .octets .now) → ⊥) (λ p. One 6 (answer .entry .parameter .octets .now) × Holds (p .0) (0x30 ∷ (length (integer-octets (answer .entry .operation)) + length (answer .entry .parameter .octets .now)) ∷ integer-octets (answer .entry .operation)) × (now (p .1) ≡ answer .entry .parameter .octets .now)) ⌝ }
     ensures sized { λ _. ⌜ SFits w16 (answer .entry .operation) ⌝ }
 {
     let octets = answer.parameter.octets;
@@ -246,9 +246,9 @@ impl<'a> Component<'a> {
 
 // Writes the octets at a place, and answers the place behind them.
 fn put(memory: &mut [u8], at: usize, octets: &[u8]) -> usize
-    requires { ⌜ at + len (now octets) ≤ len (now memory) ⌝ }
-    ensures place { λ r. ⌜ r ≡ at + len (now (octets .entry)) ⌝ }
-    ensures written { λ r. ⌜ now (memory .exit) ≡ take at (now (memory .entry)) ++ (now (octets .entry) ++ drop (at + len (now (octets .entry))) (now (memory .entry))) ⌝ }
+    requires { ⌜ at + length (now octets) ≤ length (now memory) ⌝ }
+    ensures place { λ r. ⌜ r ≡ at + length (now (octets .entry)) ⌝ }
+    ensures written { λ r. ⌜ now (memory .exit) ≡ take at (now (memory .entry)) ++ (now (octets .entry) ++ drop (at + length (now (octets .entry))) (now (memory .entry))) ⌝ }
 {
     let end = at + octets.len();
     memory[at..end].copy_from_slice(octets);

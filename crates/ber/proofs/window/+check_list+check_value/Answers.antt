@@ -1,18 +1,27 @@
 use borrow.Author.Needs.{needs}
 use mathlib.Core.Path.{_≡_, sym, ap, _∙_}
 use mathlib.Core.Bool.{true, false}
-use Prim.Native.Nat.{_+_, _<_, _≤_}
+use mathlib.Core.List.{List}
+use Prim.Native.Nat.{ℕ, _+_, _<_, _≤_}
 use lib.ListN.{length, getD}
 use native.Mathlib.Omega.{arith}
 use Rattle.std.specs.Holes.{between}
-use Rattle.std.specs.Results.{Cases}
-use Rattle.std.proofs.shelf.Results.{err-from-errBy, cases-weaker}
+use Rattle.std.proofs.shelf.Results.{err-from-errBy}
 use Rattle.std.specs.declared.option.Option.the-variants.{None}
+use Rattle.std.specs.declared.result.Result.{Result}
+use Rattle.std.specs.declared.result.Result.the-variants.{Ok, Err}
+use Rattle.ber.specs.declared.window.Window.{Window}
+use Rattle.ber.specs.Windows.{shown, ListChecked}
 use Rattle.ber.specs.Structure.{bad-value, bad-list}
 use Rattle.ber.specs.Value.{is-constructed, tag, size}
 use Rattle.ber.proofs.Nesting.{empty-list, no-level, value-cut, value-plain, list-first, window-length, value-within, front-length, front-tag, nested-window, later-window}
 use Rattle.ber.proofs.window.+check_list+check_value.Needs as need
 use Rattle.ber.proofs.window.+check_list+check_value.Needs.{check-value-then-is-constructed·in-Continue-check-list, check-value-else-is-constructed}
+
+-- the check of the list behind a value is the check of the list
+goes-on : (levels : ℕ) (xs : List ℕ) (before mid after : Window) (r : Result (Unit {0}) ℕ) → bad-list levels (before .pos) (shown before xs) ≡ bad-list levels (mid .pos) (shown mid xs) → mid .end ≡ before .end → ListChecked levels xs mid after r → ListChecked levels xs before after r
+goes-on levels xs before mid after (Ok _) same end checked = (same ∙ checked .0, checked .1 ∙ end)
+goes-on levels xs before mid after (Err place) same end checked = same ∙ checked
 
 pub check-list-returns-then-window : need.check-list-returns-then-window
 check-list-returns-then-window t c =
@@ -35,7 +44,7 @@ check-list-returns t c =
     let same = later-window (w .pos) (w .end) (c .args .octets .now) (c .pre .within .0) (c .pre .within .1) (c .args .levels) (c .check-value .last .window .pos) more (told .checked .0) (told .checked .1 .0) (told .checked .1 .1) ∙ ap (λ k. bad-list (c .args .levels) (c .check-value .last .window .pos) (between (c .check-value .last .window .pos) k (c .args .octets .now))) (sym (told .end)) in
     record {
       end = c .check-list .ensures .end ∙ told .end;
-      checked = cases-weaker (c .check-list .result) (c .check-list .ensures .checked) (λ _ well. (same ∙ well .0, well .1 ∙ told .end)) (λ place bad. same ∙ bad);
+      checked = goes-on (c .args .levels) (c .args .octets .now) w (c .check-value .last .window) (c .check-list .last .window) (c .check-list .result) same (told .end) (c .check-list .ensures .checked);
     }
 
 pub check-value-returns-in-rest : need.check-value-returns-in-rest
