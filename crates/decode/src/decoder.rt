@@ -5,8 +5,8 @@ ghost use Prim.Native.Nat.{ℕ, _≤_, _<_};
 ghost use lib.ListN.{length, getD};
 ghost use Rattle.std.specs.Of.Vec.{vec-items};
 ghost use Rattle.std.specs.Vec.{made};
-ghost use Rattle.decode.specs.Lines.{ended, going-on, Answered, All-answered};
-ghost use Rattle.decode.specs.Spelling.{spelled};
+ghost use Rattle.decode.specs.Lines.{ended, going-on, line-answer, line-answers};
+ghost use Rattle.decode.specs.Wording.{Adds};
 use crate::account::push_account;
 use crate::account::push_word;
 use crate::hex::Content;
@@ -38,7 +38,7 @@ fn line_length(bytes: &[u8]) -> usize
 
 // Adds the answer to a line.
 fn answer(line: &[u8], octets: &mut Vec<u8>, answers: &mut Vec<u8>) -> Result<(), AllocError>
-    ensures { λ r. ⌜ made r (λ _. Answered (spelled (now (line .entry))) (vec-items (now (answers .entry))) (vec-items (now (answers .exit)))) ⌝ }
+    ensures { λ r. ⌜ Adds r (vec-items (now (answers .entry))) (vec-items (now (answers .exit))) (line-answer (now (line .entry))) ⌝ }
 {
     match read_octets(line, octets)? {
         Content::Blank => Ok(()),
@@ -62,7 +62,7 @@ impl Decoder {
     // Answers each line that ends in the block, and keeps the one that goes on.
     pub fn take_block(&mut self, block: &[u8]) -> Result<(), AllocError>
         ensures kept { λ r. ⌜ made r (λ _. vec-items (now (self .exit) .line) ≡ going-on (vec-items (now (self .entry) .line)) (now (block .entry))) ⌝ }
-        ensures answered { λ r. ⌜ made r (λ _. All-answered (ended (vec-items (now (self .entry) .line)) (now (block .entry))) (vec-items (now (self .entry) .answers)) (vec-items (now (self .exit) .answers))) ⌝ }
+        ensures answered { λ r. ⌜ Adds r (vec-items (now (self .entry) .answers)) (vec-items (now (self .exit) .answers)) (line-answers (ended (vec-items (now (self .entry) .line)) (now (block .entry)))) ⌝ }
     {
         let mut rest = block;
         loop {
@@ -78,7 +78,7 @@ impl Decoder {
     // Answers the line that ends with these bytes.
     fn end_line(&mut self, bytes: &[u8]) -> Result<(), AllocError>
         ensures kept { λ r. ⌜ made r (λ _. vec-items (now (self .exit) .line) ≡ []) ⌝ }
-        ensures answered { λ r. ⌜ made r (λ _. Answered (spelled (vec-items (now (self .entry) .line) ++ now (bytes .entry))) (vec-items (now (self .entry) .answers)) (vec-items (now (self .exit) .answers))) ⌝ }
+        ensures answered { λ r. ⌜ Adds r (vec-items (now (self .entry) .answers)) (vec-items (now (self .exit) .answers)) (line-answer (vec-items (now (self .entry) .line) ++ now (bytes .entry))) ⌝ }
     {
         if self.line.is_empty() {
             return answer(bytes, &mut self.octets, &mut self.answers);
@@ -90,7 +90,7 @@ impl Decoder {
     // Answers the line that the input ends with.
     pub fn end(&mut self) -> Result<(), AllocError>
         ensures kept { λ r. ⌜ made r (λ _. vec-items (now (self .exit) .line) ≡ []) ⌝ }
-        ensures answered { λ r. ⌜ made r (λ _. Answered (spelled (vec-items (now (self .entry) .line))) (vec-items (now (self .entry) .answers)) (vec-items (now (self .exit) .answers))) ⌝ }
+        ensures answered { λ r. ⌜ Adds r (vec-items (now (self .entry) .answers)) (vec-items (now (self .exit) .answers)) (line-answer (vec-items (now (self .entry) .line))) ⌝ }
     {
         answer(self.line.as_slice(), &mut self.octets, &mut self.answers)?;
         self.line.clear();

@@ -10,7 +10,7 @@ use Rattle.decode.proofs.Cutting.{Unbroken, Left, always, appended, last-turn,
 use Rattle.decode.proofs.decoder.Decoder.take_block.Needs as need
 
 pub loop-rest-holds : need.loop-rest-holds
-loop-rest-holds c = (search needs, record { goes = refl; answers-all = λ is all. all })
+loop-rest-holds c = (search needs, record { goes = refl; tells = refl })
 
 pub returns-then-end-rest : need.returns-then-end-rest
 returns-then-end-rest c =
@@ -18,7 +18,7 @@ returns-then-end-rest c =
     let done = last-turn (c .loop-rest .inv .1) whole in
     record {
       kept = appended (c .extend-from-slice .result) (vec-items (c .loop-rest .self .line)) _ (c .loop-rest .rest .now) _ (c .extend-from-slice .ensures .items) (done .0);
-      answered = always (c .extend-from-slice .result) (done .1);
+      answered = record { added = always (c .extend-from-slice .result) (done .1) };
     }
 
 pub loop-rest-again : need.loop-rest-again
@@ -30,5 +30,5 @@ loop-rest-again c =
           (ap (λ k. take k (c .loop-rest .rest .now)) (sub-zero (c .line-length-end .result)))
           (take-rest (c .loop-rest .rest .now) (c .line-length-end .result + 1))
           (c .in-Continue-end-line .ensures tt .kept)
-          (c .in-Continue-end-line .ensures tt .answered),
+          (c .in-Continue-end-line .ensures tt .answered .added),
     )
