@@ -2,6 +2,7 @@
 use mathlib.Core.List.{List, [], _++_}
 use Prim.Native.Nat.{ℕ}
 use lib.Chars.{codes}
+use Rattle.std.specs.declared.option.Option.{Option}
 use Rattle.std.specs.declared.result.Result.{Result}
 use Rattle.std.specs.declared.result.Result.the-variants.{Ok, Err}
 use Rattle.components.specs.Component.{Said, invoke, result, error, reject}
@@ -11,12 +12,18 @@ use Rattle.components.specs.Reading.{reading}
 use Rattle.components.specs.declared.fault.Fault.{Fault}
 use Rattle.facility.specs.Requests.{requesting}
 use Rattle.facility.specs.declared.request.RequestInvoke.{RequestInvoke}
-use Rattle.decode.specs.Wording.{optional-text, component-text, request-text, fault-text, reply-text}
+use Rattle.decode.specs.Wording.{optional-text, pairs, component-text, request-text, fault-text}
 
--- a fault, and the reply to it, if it has one
+-- a fault without its reply
+abbrev pub cause-account : Fault → List ℕ
+cause-account f = fault-text (cause-number (f .cause)) (f .place) (layer-of (f .cause))
+
+-- the octets of a reply, if there is one
+abbrev pub reply-account : Option (List ℕ) → List ℕ
+reply-account reply = optional-text (λ octets. codes " reply" ++ pairs octets) reply
+
 abbrev pub fault-account : Fault → List ℕ
-fault-account f =
-    fault-text (cause-number (f .cause)) (f .place) (layer-of (f .cause)) ++ optional-text reply-text (reply-octets (f .cause))
+fault-account f = cause-account f ++ reply-account (reply-octets (f .cause))
 
 abbrev pub request-account : Result RequestInvoke Fault → List ℕ
 request-account (Ok r) = request-text (r .request)

@@ -88,6 +88,3 @@ layer-text Argument = codes " argument"
 -- a fault without its reply: the cause's number, the place and the layer
 abbrev pub fault-text : ℕ → ℕ → Layer → List ℕ
 fault-text cause place layer = codes "fault " ++ (decimal cause ++ (codes " at " ++ (decimal place ++ layer-text layer)))
-
-abbrev pub reply-text : List ℕ → List ℕ
-reply-text octets = codes " reply" ++ pairs octets

@@ -6,9 +6,10 @@ ghost use Rattle.std.specs.Written.{decimal, signed};
 ghost use Rattle.std.specs.Options.{mapped};
 ghost use Rattle.std.specs.declared.result.Result.the-variants.{Ok};
 ghost use Rattle.components.specs.Component.{part, answered, said};
+ghost use Rattle.components.specs.Message.{message-octets};
 ghost use Rattle.components.specs.Reading.{reading};
-ghost use Rattle.decode.specs.Account.{fault-account, invoked, reading-account, account};
-ghost use Rattle.decode.specs.Wording.{Adds, optional-text, parameter-text, answer-text, id-text, problem-text, component-text, request-text, layer-text, fault-text, reply-text};
+ghost use Rattle.decode.specs.Account.{cause-account, reply-account, fault-account, invoked, reading-account, account};
+ghost use Rattle.decode.specs.Wording.{Adds, pairs, optional-text, parameter-text, answer-text, id-text, problem-text, component-text, request-text, layer-text, fault-text};
 use crate::figures::push_number;
 use crate::figures::push_pairs;
 use crate::figures::push_signed;
@@ -16,6 +17,7 @@ use facility::Answer;
 use facility::Component;
 use facility::Fault;
 use facility::Layer;
+use facility::Message;
 use facility::Parameter;
 use facility::Problem;
 use facility::Request;
@@ -45,14 +47,21 @@ fn push_code(out: &mut Vec<u8>, word: &str, n: i16) -> Result<(), AllocError>
     push_signed(out, n)
 }
 
+// A word and octets.
+fn push_octets(out: &mut Vec<u8>, word: &str, octets: &[u8]) -> Result<(), AllocError>
+    ensures { λ r. ⌜ Adds r (vec-items (now (out .entry))) (vec-items (now (out .exit))) (now (word .entry) ++ pairs (now (octets .entry))) ⌝ }
+{
+    push_word(out, word)?;
+    push_pairs(out, octets)
+}
+
 fn push_parameter(out: &mut Vec<u8>, parameter: Option<Parameter<'_>>) -> Result<(), AllocError>
     ensures { λ r. ⌜ Adds r (vec-items (now (out .entry))) (vec-items (now (out .exit))) (optional-text (λ p. parameter-text (p .octets) (p .place)) (mapped part (parameter .entry))) ⌝ }
 {
     let Some(Parameter { octets, place }) = parameter else {
         return Ok(());
     };
-    push_word(out, " parameter")?;
-    push_pairs(out, octets)?;
+    push_octets(out, " parameter", octets)?;
     push_word(out, " at ")?;
     push_number(out, place)
 }
@@ -154,8 +163,8 @@ fn layer_word(layer: Layer) -> &'static str
     }
 }
 
-// The cause's number, the place and the layer of a fault.
-fn push_cause(out: &mut Vec<u8>, cause: u8, place: usize, layer: Layer) -> Result<(), AllocError>
+// The number of a cause, the place and the layer.
+fn push_placed(out: &mut Vec<u8>, cause: u8, place: usize, layer: Layer) -> Result<(), AllocError>
     ensures { λ r. ⌜ Adds r (vec-items (now (out .entry))) (vec-items (now (out .exit))) (fault-text cause place layer) ⌝ }
 {
     push_named(out, "fault ", cause)?;
@@ -164,21 +173,26 @@ fn push_cause(out: &mut Vec<u8>, cause: u8, place: usize, layer: Layer) -> Resul
     push_word(out, layer_word(layer))
 }
 
-fn push_reply(out: &mut Vec<u8>, octets: &[u8]) -> Result<(), AllocError>
-    ensures { λ r. ⌜ Adds r (vec-items (now (out .entry))) (vec-items (now (out .exit))) (reply-text (now (octets .entry))) ⌝ }
+fn push_cause(out: &mut Vec<u8>, fault: &Fault) -> Result<(), AllocError>
+    ensures { λ r. ⌜ Adds r (vec-items (now (out .entry))) (vec-items (now (out .exit))) (cause-account (now (fault .entry))) ⌝ }
 {
-    push_word(out, " reply")?;
-    push_pairs(out, octets)
+    push_placed(out, fault.cause.number(), fault.place, fault.cause.layer())
+}
+
+fn push_reply(out: &mut Vec<u8>, reply: Option<Message>) -> Result<(), AllocError>
+    ensures { λ r. ⌜ Adds r (vec-items (now (out .entry))) (vec-items (now (out .exit))) (reply-account (mapped message-octets reply)) ⌝ }
+{
+    match reply {
+        Some(message) => push_octets(out, " reply", message.octets()),
+        None => Ok(()),
+    }
 }
 
 fn push_fault(out: &mut Vec<u8>, fault: &Fault) -> Result<(), AllocError>
     ensures { λ r. ⌜ Adds r (vec-items (now (out .entry))) (vec-items (now (out .exit))) (fault-account (now (fault .entry))) ⌝ }
 {
-    push_cause(out, fault.cause.number(), fault.place, fault.cause.layer())?;
-    match fault.reply() {
-        Some(reply) => push_reply(out, reply.octets()),
-        None => Ok(()),
-    }
+    push_cause(out, fault)?;
+    push_reply(out, fault.reply())
 }
 
 // The request that an invoke makes, or its fault, on a line of its own.
