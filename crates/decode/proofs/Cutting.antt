@@ -53,6 +53,11 @@ pub always : {X Y P : Type 0} (r : Result X Y) → P → made r (λ _. P)
 always (Ok x) p = p
 always (Err y) p = tt
 
+-- what follows from two facts of a call that did not fail
+pub made-from : {X Y P Q R : Type 0} (r : Result X Y) → (P → Q → R) → made r (λ _. P) → made r (λ _. Q) → made r (λ _. R)
+made-from (Ok x) f p q = f p q
+made-from (Err y) f p q = tt
+
 -- what an appending made, where it did not fail
 pub appended : {X Y : Type 0} (r : Result X Y) (was is text goal : List ℕ) → is ≡ cond (isOk r) (was ++ text) was → was ++ text ≡ goal → made r (λ _. is ≡ goal)
 appended (Ok x) was is text goal e f = e ∙ f
