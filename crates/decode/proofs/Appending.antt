@@ -1,11 +1,10 @@
 -- One text appended behind another. Assumes nothing.
 use mathlib.Core.Path.{_≡_, refl, sym, ap, subst, _∙_}
 use mathlib.Core.Bool.{true, false}
-use mathlib.Core.List.{List, [], _∷_, _++_, append-assoc}
+use mathlib.Core.List.{List, [], _∷_, _++_, append-assoc, append-nil}
 use Prim.Native.Nat.{ℕ, _+_, _/_, _%_, _^_, _≤_, _<_}
 use native.Mathlib.Nat.{mod-eq-of-lt}
 use native.Mathlib.Omega.{arith}
-use lib.Chars.{codes}
 use lib.IntN.{ℤ, pos, negsuc, natAbs}
 use lib.ListN.{length, getD, take}
 use lib.Signed.{ltZ}
@@ -17,7 +16,7 @@ use Rattle.std.proofs.shelf.Decimals.{decimal-digit, decimal-step}
 use Rattle.std.proofs.shelf.Lists.{joined-more, take-more}
 use Rattle.std.proofs.shelf.Signed.{ints}
 use Rattle.std.proofs.shelf.Tests.{false≢true}
-use Rattle.decode.specs.Wording.{Adds, Grows, GrowsByLines, hex-digit, spaced-pair, pairs}
+use Rattle.decode.specs.Wording.{Adds, hex-digit, spaced-pair, pairs}
 
 both : (was mid is a b : List ℕ) → mid ≡ was ++ a → is ≡ mid ++ b → is ≡ was ++ (a ++ b)
 both was mid is a b first then = then ∙ ap (λ l. l ++ b) first ∙ append-assoc was a b
@@ -71,26 +70,6 @@ pub pairs-more : (was mid is octets : List ℕ) (i high low : ℕ) → i < lengt
 pairs-more was mid is octets i high low h front eh el e =
     e ∙ ap (λ l. l ++ 32 ∷ high ∷ low ∷ []) front ∙ (λ p. (was ++ pairs (take i octets)) ++ 32 ∷ eh p ∷ el p ∷ []) ∙ joined-more spaced-pair was (take i octets) (getD octets i 0) ∙ ap (λ l. was ++ pairs l) (sym (take-more octets i 0 h))
 
-grown-from : {X Y : Type 0} (r : Result X Y) (was is text : List ℕ) → made r (λ _. is ≡ was ++ text) → made r (λ _. (t : List ℕ) × (is ≡ was ++ t))
-grown-from (Ok x) was is text e = (text, e)
-grown-from (Err y) was is text e = tt
-
-grown-after : {X Y : Type 0} (r : Result X Y) (was mid is a : List ℕ) → mid ≡ was ++ a → made r (λ _. (t : List ℕ) × (is ≡ mid ++ t)) → made r (λ _. (t : List ℕ) × (is ≡ was ++ t))
-grown-after (Ok x) was mid is a first then = (a ++ then .0, both was mid is a (then .0) first (then .1))
-grown-after (Err y) was mid is a first then = tt
-
-grown-ended : {X Y : Type 0} (r : Result X Y) (was mid is end : List ℕ) → ((t : List ℕ) × (mid ≡ was ++ t)) → made r (λ _. is ≡ mid ++ end) → made r (λ _. (t : List ℕ) × (is ≡ was ++ (t ++ end)))
-grown-ended (Ok x) was mid is end first then = (first .0, both was mid is (first .0) end (first .1) then)
-grown-ended (Err y) was mid is end first then = tt
-
--- a text that was added is some text
-pub grows : {X Y : Type 0} {r : Result X Y} {was is text : List ℕ} → Adds r was is text → Grows r was is
-grows {r = r} {was} {is} {text} h = record { grown = grown-from r was is text (h .added) }
-
--- a text was added, and then some text
-pub grows-after : {V W X Y : Type 0} {x : V} {r : Result X Y} {was mid is a : List ℕ} → Adds {X = V} {Y = W} (Ok x) was mid a → Grows r mid is → Grows r was is
-grows-after {r = r} {was} {mid} {is} {a} first then = record { grown = grown-after r was mid is a (first .added) (then .grown) }
-
--- some text was added, and then a line feed
-pub grows-ended : {V W X Y : Type 0} {x : V} {r : Result X Y} {was mid is : List ℕ} → Grows {X = V} {Y = W} (Ok x) was mid → Adds r mid is (codes "\n") → GrowsByLines r was is
-grows-ended {r = r} {was} {mid} {is} first then = record { grown-by-lines = grown-ended r was mid is (codes "\n") (first .grown) (then .added) }
+-- nothing was added behind a text
+pub and-nothing : {X Y : Type 0} {r : Result X Y} {was is a b : List ℕ} → b ≡ [] → Adds r was is a → Adds r was is (a ++ b)
+and-nothing {a = a} {b} e = reworded (sym (append-nil a) ∙ ap (λ l. a ++ l) (sym e))

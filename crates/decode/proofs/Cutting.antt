@@ -13,8 +13,7 @@ use Rattle.std.specs.Results.{isOk}
 use Rattle.std.specs.Vec.{made}
 use Rattle.std.specs.declared.result.Result.{Result}
 use Rattle.std.specs.declared.result.Result.the-variants.{Ok, Err}
-use Rattle.decode.specs.Lines.{ended, going-on, Answered, All-answered}
-use Rattle.decode.specs.Spelling.{spelled}
+use Rattle.decode.specs.Lines.{ended, going-on, line-answer, line-answers}
 
 -- none of the first `n` bytes is a line feed
 abbrev pub Unbroken : List ℕ → ℕ → Type 0
@@ -54,6 +53,11 @@ pub always : {X Y P : Type 0} (r : Result X Y) → P → made r (λ _. P)
 always (Ok x) p = p
 always (Err y) p = tt
 
+-- what follows from two facts of a call that did not fail
+pub made-from : {X Y P Q R : Type 0} (r : Result X Y) → (P → Q → R) → made r (λ _. P) → made r (λ _. Q) → made r (λ _. R)
+made-from (Ok x) f p q = f p q
+made-from (Err y) f p q = tt
+
 -- what an appending made, where it did not fail
 pub appended : {X Y : Type 0} (r : Result X Y) (was is text goal : List ℕ) → is ≡ cond (isOk r) (was ++ text) was → was ++ text ≡ goal → made r (λ _. is ≡ goal)
 appended (Ok x) was is text goal e f = e ∙ f
@@ -62,24 +66,29 @@ appended (Err y) was is text goal e f = tt
 -- from the line `kept`, with `bs` of the block left and the answers `was`, the whole block comes to be answered
 pub record Left (line block answers kept bs was : List ℕ) : Type 0 where
   pub goes : going-on kept bs ≡ going-on line block
-  pub answers-all : (is : List ℕ) → All-answered (ended kept bs) was is → All-answered (ended line block) answers is
+  pub tells : was ++ line-answers (ended kept bs) ≡ answers ++ line-answers (ended line block)
 
 module _ {line block answers kept bs was : List ℕ} (left : Left line block answers kept bs was) where
   -- the rest of the block ends no line
-  pub last-turn : Unbroken bs (length bs) → (kept ++ bs ≡ going-on line block) × All-answered (ended line block) answers was
+  pub last-turn : Unbroken bs (length bs) → (kept ++ bs ≡ going-on line block) × (was ≡ answers ++ line-answers (ended line block))
   last-turn u =
       let done = uncut kept bs u in
-      (sym (done .1) ∙ left .goes, left .answers-all was (subst (λ ls. All-answered ls was was) (sym (done .0)) refl))
+      (sym (done .1) ∙ left .goes, sym (append-nil was) ∙ ap (λ ls. was ++ line-answers ls) (sym (done .0)) ∙ left .tells)
 
   -- a line ends, and is answered
-  pub next-turn : (n : ℕ) (piece kept′ bs′ mid : List ℕ) → n < length bs → Unbroken bs n → getD bs n 0 ≡ 10 → piece ≡ take n bs → bs′ ≡ drop (n + 1) bs → kept′ ≡ [] → Answered (spelled (kept ++ piece)) was mid → Left line block answers kept′ bs′ mid
+  pub next-turn : (n : ℕ) (piece kept′ bs′ mid : List ℕ) → n < length bs → Unbroken bs n → getD bs n 0 ≡ 10 → piece ≡ take n bs → bs′ ≡ drop (n + 1) bs → kept′ ≡ [] → mid ≡ was ++ line-answer (kept ++ piece) → Left line block answers kept′ bs′ mid
   next-turn n piece kept′ bs′ mid h u e ep eb ek a =
       let done = cut kept bs n h u e in
       let rest : bs′ ≡ drop (suc n) bs = eb ∙ ap (λ k. drop k bs) (add-one n) in
-      let told : Answered (spelled (kept ++ take n bs)) was mid = subst (λ p. Answered (spelled (kept ++ p)) was mid) ep a in
+      let now = line-answer (kept ++ take n bs) in
+      let later = line-answers (ended [] (drop (suc n) bs)) in
       record {
         goes = ap (λ k. going-on k bs′) ek ∙ ap (going-on []) rest ∙ sym (done .1) ∙ left .goes;
-        answers-all = λ is all.
-            let more : All-answered (ended [] (drop (suc n) bs)) mid is = subst (λ l. All-answered (ended [] l) mid is) rest (subst (λ k. All-answered (ended k bs′) mid is) ek all) in
-            left .answers-all is (subst (λ ls. All-answered ls was is) (sym (done .0)) (mid, told, more));
+        tells =
+            ap (λ l. l ++ line-answers (ended kept′ bs′)) (a ∙ ap (λ p. was ++ line-answer (kept ++ p)) ep)
+            ∙ ap (λ l. (was ++ now) ++ line-answers (ended l bs′)) ek
+            ∙ ap (λ l. (was ++ now) ++ line-answers (ended [] l)) rest
+            ∙ append-assoc was now later
+            ∙ ap (λ ls. was ++ line-answers ls) (sym (done .0))
+            ∙ left .tells;
       }

@@ -1,3 +1,4 @@
+pub mod Account
 pub mod Lines
 pub mod Spelling
 pub mod Wording

@@ -5,8 +5,12 @@ use mathlib.Core.Path.{_≡_}
 use Prim.Native.Nat.{ℕ}
 use lib.Chars.{codes}
 use lib.Dec.{eqb}
+use Rattle.std.specs.Joined.{joined}
+use Rattle.std.specs.Of.Vec.{vec-items}
 use Rattle.std.specs.declared.option.Option.{Option}
 use Rattle.std.specs.declared.option.Option.the-variants.{Some, None}
+use Rattle.decode.specs.declared.decoder.Decoder.{Decoder}
+use Rattle.decode.specs.Account.{account}
 use Rattle.decode.specs.Spelling.{spelled}
 
 -- the lines that end in a block, by their line feeds, where the first goes on from `kept`
@@ -19,14 +23,26 @@ abbrev pub going-on : List ℕ → List ℕ → List ℕ
 going-on kept [] = kept
 going-on kept (b ∷ bs) = cond (eqb b 10) (going-on [] bs) (going-on (kept ++ b ∷ []) bs)
 
--- what a line that spells `s` makes of the text `was`: a refusal is added where it spells no octets, nothing where it is
--- blank, and else the lines that account for its octets
-abbrev pub Answered : Option (List ℕ) → List ℕ → List ℕ → Type 0
-Answered None was is = is ≡ was ++ codes "not octets\n"
-Answered (Some []) was is = is ≡ was
-Answered (Some (o ∷ os)) was is = (text : List ℕ) × (is ≡ was ++ (text ++ codes "\n"))
+-- the answer to a line that spells `s`: a refusal where it spells no octets, nothing where it is blank, and else the lines
+-- that account for its octets
+abbrev pub spelling-answer : Option (List ℕ) → List ℕ
+spelling-answer None = codes "not octets\n"
+spelling-answer (Some []) = []
+spelling-answer (Some (o ∷ os)) = account (o ∷ os)
 
--- each line was answered, one after another
-abbrev pub All-answered : List (List ℕ) → List ℕ → List ℕ → Type 0
-All-answered [] was is = is ≡ was
-All-answered (l ∷ ls) was is = (mid : List ℕ) × Answered (spelled l) was mid × All-answered ls mid is
+abbrev pub line-answer : List ℕ → List ℕ
+line-answer line = spelling-answer (spelled line)
+
+-- the answers to lines, in order
+abbrev pub line-answers : List (List ℕ) → List ℕ
+line-answers lines = joined line-answer lines
+
+-- the lines of a whole input; the last may lack its line feed, and is blank behind one
+abbrev pub lines : List ℕ → List (List ℕ)
+lines input = ended [] input ++ going-on [] input ∷ []
+
+-- where a run stands behind `input`, however it came in blocks: the line that goes on is kept, and each line that ended is
+-- answered, in what is already written or in the answers that are not
+pub record Stands (input written : List ℕ) (d : Decoder) : Type 0 where
+  pub keeps : vec-items (d .line) ≡ going-on [] input
+  pub tells : written ++ vec-items (d .answers) ≡ line-answers (ended [] input)

@@ -12,12 +12,9 @@ use Rattle.std.specs.Written.{decimal, signed}
 use Rattle.std.specs.declared.option.Option.{Option}
 use Rattle.std.specs.declared.option.Option.the-variants.{Some, None}
 use Rattle.std.specs.declared.result.Result.{Result}
-use Rattle.components.specs.declared.component.Answer.{Answer}
-use Rattle.components.specs.declared.component.Component.{Component}
-use Rattle.components.specs.declared.component.Component.the-variants.{Invoke, ReturnResult, ReturnError, Reject}
-use Rattle.components.specs.declared.component.Parameter.{Parameter}
+use Rattle.components.specs.Component.{Said, invoke, result, error, reject}
 use Rattle.components.specs.declared.component.Problem.{Problem}
-use Rattle.components.specs.declared.component.Problem.the-variants.{General, Invoke as InvokeProblem, ReturnResult as ResultProblem, ReturnError as ErrorProblem}
+use Rattle.components.specs.declared.component.Problem.the-variants.{General, Invoke, ReturnResult, ReturnError}
 use Rattle.components.specs.declared.fault.Layer.{Layer}
 use Rattle.components.specs.declared.fault.Layer.the-variants.{Element, Component as ComponentLayer, Argument}
 use Rattle.facility.specs.declared.request.Request.{Request}
@@ -26,14 +23,6 @@ use Rattle.facility.specs.declared.request.Request.the-variants.{Begin, Add, Sp
 -- `text` was added behind what stood there, where nothing failed
 pub record Adds {X Y : Type 0} (r : Result X Y) (was is text : List ℕ) : Type 0 where
   pub added : made r (λ _. is ≡ was ++ text)
-
--- some text was added behind what stood there, where nothing failed
-pub record Grows {X Y : Type 0} (r : Result X Y) (was is : List ℕ) : Type 0 where
-  pub grown : made r (λ _. (text : List ℕ) × (is ≡ was ++ text))
-
--- a line or more was added, down to a line feed
-pub record GrowsByLines {X Y : Type 0} (r : Result X Y) (was is : List ℕ) : Type 0 where
-  pub grown-by-lines : made r (λ _. (text : List ℕ) × (is ≡ was ++ (text ++ codes "\n")))
 
 -- the upper-case hex digit of a value below 16
 abbrev pub hex-digit : ℕ → ℕ
@@ -46,9 +35,18 @@ spaced-pair o = 32 ∷ hex-digit (o / 16) ∷ hex-digit (o % 16) ∷ []
 abbrev pub pairs : List ℕ → List ℕ
 pairs os = joined spaced-pair os
 
-abbrev pub parameter-text : Option Parameter → List ℕ
-parameter-text None = []
-parameter-text (Some p) = codes " parameter" ++ (pairs (p .octets .now) ++ (codes " at " ++ decimal (p .place)))
+-- the text of what may be absent
+abbrev pub optional-text : {X : Type 0} → (X → List ℕ) → Option X → List ℕ
+optional-text text None = []
+optional-text text (Some x) = text x
+
+-- a value and its place
+abbrev pub parameter-text : List ℕ → ℕ → List ℕ
+parameter-text octets place = codes " parameter" ++ (pairs octets ++ (codes " at " ++ decimal place))
+
+-- the operation that a result answers, and the value
+abbrev pub answer-text : ℤ → List ℕ → ℕ → List ℕ
+answer-text operation octets place = codes " operation " ++ (signed operation ++ parameter-text octets place)
 
 -- an invoke id, or NULL
 abbrev pub id-text : Option ℤ → List ℕ
@@ -57,21 +55,17 @@ id-text None = codes "none"
 
 abbrev pub problem-text : Problem → List ℕ
 problem-text (General code) = codes " general problem " ++ decimal code
-problem-text (InvokeProblem code) = codes " invoke problem " ++ decimal code
-problem-text (ResultProblem code) = codes " result problem " ++ decimal code
-problem-text (ErrorProblem code) = codes " error problem " ++ decimal code
+problem-text (Invoke code) = codes " invoke problem " ++ decimal code
+problem-text (ReturnResult code) = codes " result problem " ++ decimal code
+problem-text (ReturnError code) = codes " error problem " ++ decimal code
 
-abbrev pub answer-text : Option Answer → List ℕ
-answer-text None = []
-answer-text (Some a) = codes " operation " ++ (signed (a .operation) ++ parameter-text (Some (a .parameter)))
-
-abbrev pub component-text : Component → List ℕ
-component-text (Invoke id operation argument) =
-    codes "invoke " ++ (signed id ++ (codes " operation " ++ (signed operation ++ parameter-text argument)))
-component-text (ReturnResult id answer) = codes "result " ++ (signed id ++ answer-text answer)
-component-text (ReturnError id error parameter) =
-    codes "error " ++ (signed id ++ (codes " error " ++ (signed error ++ parameter-text parameter)))
-component-text (Reject id problem) = codes "reject " ++ (id-text id ++ problem-text problem)
+abbrev pub component-text : Said → List ℕ
+component-text (invoke id operation argument) =
+    codes "invoke " ++ (signed id ++ (codes " operation " ++ (signed operation ++ optional-text (λ p. parameter-text (p .octets) (p .place)) argument)))
+component-text (result id answer) = codes "result " ++ (signed id ++ optional-text (λ a. answer-text (a .0) (a .1 .octets) (a .1 .place)) answer)
+component-text (error id code parameter) =
+    codes "error " ++ (signed id ++ (codes " error " ++ (signed code ++ optional-text (λ p. parameter-text (p .octets) (p .place)) parameter)))
+component-text (reject id problem) = codes "reject " ++ (id-text id ++ problem-text problem)
 
 abbrev pub begin-text : Option ℕ → List ℕ
 begin-text None = codes "begin"
@@ -91,9 +85,6 @@ layer-text Element = codes " element"
 layer-text ComponentLayer = codes " component"
 layer-text Argument = codes " argument"
 
--- a fault without its reply, and the reply
+-- a fault without its reply: the cause's number, the place and the layer
 abbrev pub fault-text : ℕ → ℕ → Layer → List ℕ
 fault-text cause place layer = codes "fault " ++ (decimal cause ++ (codes " at " ++ (decimal place ++ layer-text layer)))
-
-abbrev pub reply-text : List ℕ → List ℕ
-reply-text octets = codes " reply" ++ pairs octets

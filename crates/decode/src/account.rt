@@ -3,7 +3,13 @@ ghost use mathlib.Core.List.{_++_};
 ghost use mathlib.Core.Path.{_≡_};
 ghost use Rattle.std.specs.Of.Vec.{vec-items};
 ghost use Rattle.std.specs.Written.{decimal, signed};
-ghost use Rattle.decode.specs.Wording.{Adds, Grows, GrowsByLines, parameter-text, answer-text, id-text, problem-text, component-text, request-text, layer-text, fault-text, reply-text};
+ghost use Rattle.std.specs.Options.{mapped};
+ghost use Rattle.std.specs.declared.result.Result.the-variants.{Ok};
+ghost use Rattle.components.specs.Component.{part, answered, said};
+ghost use Rattle.components.specs.Message.{message-octets};
+ghost use Rattle.components.specs.Reading.{reading};
+ghost use Rattle.decode.specs.Account.{cause-account, reply-account, fault-account, invoked, reading-account, account};
+ghost use Rattle.decode.specs.Wording.{Adds, pairs, optional-text, parameter-text, answer-text, id-text, problem-text, component-text, request-text, layer-text, fault-text};
 use crate::figures::push_number;
 use crate::figures::push_pairs;
 use crate::figures::push_signed;
@@ -11,6 +17,7 @@ use facility::Answer;
 use facility::Component;
 use facility::Fault;
 use facility::Layer;
+use facility::Message;
 use facility::Parameter;
 use facility::Problem;
 use facility::Request;
@@ -40,20 +47,27 @@ fn push_code(out: &mut Vec<u8>, word: &str, n: i16) -> Result<(), AllocError>
     push_signed(out, n)
 }
 
+// A word and octets.
+fn push_octets(out: &mut Vec<u8>, word: &str, octets: &[u8]) -> Result<(), AllocError>
+    ensures { λ r. ⌜ Adds r (vec-items (now (out .entry))) (vec-items (now (out .exit))) (now (word .entry) ++ pairs (now (octets .entry))) ⌝ }
+{
+    push_word(out, word)?;
+    push_pairs(out, octets)
+}
+
 fn push_parameter(out: &mut Vec<u8>, parameter: Option<Parameter<'_>>) -> Result<(), AllocError>
-    ensures { λ r. ⌜ Adds r (vec-items (now (out .entry))) (vec-items (now (out .exit))) (parameter-text (parameter .entry)) ⌝ }
+    ensures { λ r. ⌜ Adds r (vec-items (now (out .entry))) (vec-items (now (out .exit))) (optional-text (λ p. parameter-text (p .octets) (p .place)) (mapped part (parameter .entry))) ⌝ }
 {
     let Some(Parameter { octets, place }) = parameter else {
         return Ok(());
     };
-    push_word(out, " parameter")?;
-    push_pairs(out, octets)?;
+    push_octets(out, " parameter", octets)?;
     push_word(out, " at ")?;
     push_number(out, place)
 }
 
 fn push_answer(out: &mut Vec<u8>, answer: Option<Answer<'_>>) -> Result<(), AllocError>
-    ensures { λ r. ⌜ Adds r (vec-items (now (out .entry))) (vec-items (now (out .exit))) (answer-text (answer .entry)) ⌝ }
+    ensures { λ r. ⌜ Adds r (vec-items (now (out .entry))) (vec-items (now (out .exit))) (optional-text (λ a. answer-text (a .0) (a .1 .octets) (a .1 .place)) (mapped answered (answer .entry))) ⌝ }
 {
     let Some(
         Answer {
@@ -89,7 +103,7 @@ fn push_problem(out: &mut Vec<u8>, problem: Problem) -> Result<(), AllocError>
 }
 
 fn push_component(out: &mut Vec<u8>, component: Component<'_>) -> Result<(), AllocError>
-    ensures { λ r. ⌜ Adds r (vec-items (now (out .entry))) (vec-items (now (out .exit))) (component-text (component .entry)) ⌝ }
+    ensures { λ r. ⌜ Adds r (vec-items (now (out .entry))) (vec-items (now (out .exit))) (component-text (said (component .entry))) ⌝ }
 {
     match component {
         Component::Invoke {
@@ -149,8 +163,8 @@ fn layer_word(layer: Layer) -> &'static str
     }
 }
 
-// The cause's number, the place and the layer of a fault.
-fn push_cause(out: &mut Vec<u8>, cause: u8, place: usize, layer: Layer) -> Result<(), AllocError>
+// The number of a cause, the place and the layer.
+fn push_placed(out: &mut Vec<u8>, cause: u8, place: usize, layer: Layer) -> Result<(), AllocError>
     ensures { λ r. ⌜ Adds r (vec-items (now (out .entry))) (vec-items (now (out .exit))) (fault-text cause place layer) ⌝ }
 {
     push_named(out, "fault ", cause)?;
@@ -159,26 +173,31 @@ fn push_cause(out: &mut Vec<u8>, cause: u8, place: usize, layer: Layer) -> Resul
     push_word(out, layer_word(layer))
 }
 
-fn push_reply(out: &mut Vec<u8>, octets: &[u8]) -> Result<(), AllocError>
-    ensures { λ r. ⌜ Adds r (vec-items (now (out .entry))) (vec-items (now (out .exit))) (reply-text (now (octets .entry))) ⌝ }
+fn push_cause(out: &mut Vec<u8>, fault: &Fault) -> Result<(), AllocError>
+    ensures { λ r. ⌜ Adds r (vec-items (now (out .entry))) (vec-items (now (out .exit))) (cause-account (now (fault .entry))) ⌝ }
 {
-    push_word(out, " reply")?;
-    push_pairs(out, octets)
+    push_placed(out, fault.cause.number(), fault.place, fault.cause.layer())
 }
 
-fn push_fault(out: &mut Vec<u8>, fault: &Fault) -> Result<(), AllocError>
-    ensures { λ r. ⌜ Grows r (vec-items (now (out .entry))) (vec-items (now (out .exit))) ⌝ }
+fn push_reply(out: &mut Vec<u8>, reply: Option<Message>) -> Result<(), AllocError>
+    ensures { λ r. ⌜ Adds r (vec-items (now (out .entry))) (vec-items (now (out .exit))) (reply-account (mapped message-octets reply)) ⌝ }
 {
-    push_cause(out, fault.cause.number(), fault.place, fault.cause.layer())?;
-    match fault.reply() {
-        Some(reply) => push_reply(out, reply.octets()),
+    match reply {
+        Some(message) => push_octets(out, " reply", message.octets()),
         None => Ok(()),
     }
 }
 
+fn push_fault(out: &mut Vec<u8>, fault: &Fault) -> Result<(), AllocError>
+    ensures { λ r. ⌜ Adds r (vec-items (now (out .entry))) (vec-items (now (out .exit))) (fault-account (now (fault .entry))) ⌝ }
+{
+    push_cause(out, fault)?;
+    push_reply(out, fault.reply())
+}
+
 // The request that an invoke makes, or its fault, on a line of its own.
 fn push_invoked(out: &mut Vec<u8>, octets: &[u8]) -> Result<(), AllocError>
-    ensures { λ r. ⌜ Grows r (vec-items (now (out .entry))) (vec-items (now (out .exit))) ⌝ }
+    ensures { λ r. ⌜ Adds r (vec-items (now (out .entry))) (vec-items (now (out .exit))) (invoked (now (octets .entry))) ⌝ }
 {
     push_word(out, "\n  ")?;
     match read_request(octets) {
@@ -189,7 +208,7 @@ fn push_invoked(out: &mut Vec<u8>, octets: &[u8]) -> Result<(), AllocError>
 
 // The component that was read from the octets, and under an invoke its request.
 fn push_read(out: &mut Vec<u8>, component: Component<'_>, octets: &[u8]) -> Result<(), AllocError>
-    ensures { λ r. ⌜ Grows r (vec-items (now (out .entry))) (vec-items (now (out .exit))) ⌝ }
+    ensures { λ r. ⌜ Adds r (vec-items (now (out .entry))) (vec-items (now (out .exit))) (reading-account (Ok (said (component .entry))) (now (octets .entry))) ⌝ }
 {
     push_component(out, component)?;
     match component {
@@ -200,7 +219,7 @@ fn push_read(out: &mut Vec<u8>, component: Component<'_>, octets: &[u8]) -> Resu
 
 // What is read from the octets, or the fault.
 fn push_reading(out: &mut Vec<u8>, octets: &[u8]) -> Result<(), AllocError>
-    ensures { λ r. ⌜ Grows r (vec-items (now (out .entry))) (vec-items (now (out .exit))) ⌝ }
+    ensures { λ r. ⌜ Adds r (vec-items (now (out .entry))) (vec-items (now (out .exit))) (reading-account (reading (now (octets .entry))) (now (octets .entry))) ⌝ }
 {
     match read_element(octets) {
         Ok(component) => push_read(out, component, octets),
@@ -210,7 +229,7 @@ fn push_reading(out: &mut Vec<u8>, octets: &[u8]) -> Result<(), AllocError>
 
 // The lines that account for an element: the component or the fault, and under an invoke its request.
 pub fn push_account(out: &mut Vec<u8>, octets: &[u8]) -> Result<(), AllocError>
-    ensures { λ r. ⌜ GrowsByLines r (vec-items (now (out .entry))) (vec-items (now (out .exit))) ⌝ }
+    ensures { λ r. ⌜ Adds r (vec-items (now (out .entry))) (vec-items (now (out .exit))) (account (now (octets .entry))) ⌝ }
 {
     push_reading(out, octets)?;
     push_word(out, "\n")

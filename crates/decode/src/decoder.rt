@@ -1,12 +1,12 @@
 // Cuts input into lines, and answers each.
-ghost use mathlib.Core.List.{[], _++_};
+ghost use mathlib.Core.List.{List, [], _++_};
 ghost use mathlib.Core.Path.{_≡_};
 ghost use Prim.Native.Nat.{ℕ, _≤_, _<_};
 ghost use lib.ListN.{length, getD};
 ghost use Rattle.std.specs.Of.Vec.{vec-items};
 ghost use Rattle.std.specs.Vec.{made};
-ghost use Rattle.decode.specs.Lines.{ended, going-on, Answered, All-answered};
-ghost use Rattle.decode.specs.Spelling.{spelled};
+ghost use Rattle.decode.specs.Lines.{ended, going-on, line-answer, line-answers, lines, Stands};
+ghost use Rattle.decode.specs.Wording.{Adds};
 use crate::account::push_account;
 use crate::account::push_word;
 use crate::hex::Content;
@@ -38,7 +38,7 @@ fn line_length(bytes: &[u8]) -> usize
 
 // Adds the answer to a line.
 fn answer(line: &[u8], octets: &mut Vec<u8>, answers: &mut Vec<u8>) -> Result<(), AllocError>
-    ensures { λ r. ⌜ made r (λ _. Answered (spelled (now (line .entry))) (vec-items (now (answers .entry))) (vec-items (now (answers .exit)))) ⌝ }
+    ensures { λ r. ⌜ Adds r (vec-items (now (answers .entry))) (vec-items (now (answers .exit))) (line-answer (now (line .entry))) ⌝ }
 {
     match read_octets(line, octets)? {
         Content::Blank => Ok(()),
@@ -51,6 +51,7 @@ impl Decoder {
     pub fn new(heap: Global) -> Decoder
         ensures kept { λ r. ⌜ vec-items (r .line) ≡ [] ⌝ }
         ensures answered { λ r. ⌜ vec-items (r .answers) ≡ [] ⌝ }
+        ensures run { λ r. ⌜ Stands [] [] r ⌝ }
     {
         Decoder {
             line: Vec::new(heap),
@@ -59,10 +60,12 @@ impl Decoder {
         }
     }
 
-    // Answers each line that ends in the block, and keeps the one that goes on.
+    // Answers each line that ends in the block, and keeps the one that goes on. How the input is cut into blocks makes no
+    // difference.
     pub fn take_block(&mut self, block: &[u8]) -> Result<(), AllocError>
         ensures kept { λ r. ⌜ made r (λ _. vec-items (now (self .exit) .line) ≡ going-on (vec-items (now (self .entry) .line)) (now (block .entry))) ⌝ }
-        ensures answered { λ r. ⌜ made r (λ _. All-answered (ended (vec-items (now (self .entry) .line)) (now (block .entry))) (vec-items (now (self .entry) .answers)) (vec-items (now (self .exit) .answers))) ⌝ }
+        ensures answered { λ r. ⌜ Adds r (vec-items (now (self .entry) .answers)) (vec-items (now (self .exit) .answers)) (line-answers (ended (vec-items (now (self .entry) .line)) (now (block .entry)))) ⌝ }
+        ensures run { λ r. ⌜ made r (λ _. (input written : List ℕ) → Stands input written (now (self .entry)) → Stands (input ++ now (block .entry)) written (now (self .exit))) ⌝ }
     {
         let mut rest = block;
         loop {
@@ -78,7 +81,7 @@ impl Decoder {
     // Answers the line that ends with these bytes.
     fn end_line(&mut self, bytes: &[u8]) -> Result<(), AllocError>
         ensures kept { λ r. ⌜ made r (λ _. vec-items (now (self .exit) .line) ≡ []) ⌝ }
-        ensures answered { λ r. ⌜ made r (λ _. Answered (spelled (vec-items (now (self .entry) .line) ++ now (bytes .entry))) (vec-items (now (self .entry) .answers)) (vec-items (now (self .exit) .answers))) ⌝ }
+        ensures answered { λ r. ⌜ Adds r (vec-items (now (self .entry) .answers)) (vec-items (now (self .exit) .answers)) (line-answer (vec-items (now (self .entry) .line) ++ now (bytes .entry))) ⌝ }
     {
         if self.line.is_empty() {
             return answer(bytes, &mut self.octets, &mut self.answers);
@@ -90,7 +93,8 @@ impl Decoder {
     // Answers the line that the input ends with.
     pub fn end(&mut self) -> Result<(), AllocError>
         ensures kept { λ r. ⌜ made r (λ _. vec-items (now (self .exit) .line) ≡ []) ⌝ }
-        ensures answered { λ r. ⌜ made r (λ _. Answered (spelled (vec-items (now (self .entry) .line))) (vec-items (now (self .entry) .answers)) (vec-items (now (self .exit) .answers))) ⌝ }
+        ensures answered { λ r. ⌜ Adds r (vec-items (now (self .entry) .answers)) (vec-items (now (self .exit) .answers)) (line-answer (vec-items (now (self .entry) .line))) ⌝ }
+        ensures run { λ r. ⌜ made r (λ _. (input written : List ℕ) → Stands input written (now (self .entry)) → written ++ vec-items (now (self .exit) .answers) ≡ line-answers (lines input)) ⌝ }
     {
         answer(self.line.as_slice(), &mut self.octets, &mut self.answers)?;
         self.line.clear();
@@ -107,6 +111,7 @@ impl Decoder {
     pub fn forget_answers(&mut self)
         ensures kept { λ _. ⌜ now (self .exit) .line ≡ now (self .entry) .line ⌝ }
         ensures answered { λ _. ⌜ vec-items (now (self .exit) .answers) ≡ [] ⌝ }
+        ensures run { λ _. ⌜ ((input written : List ℕ) → Stands input written (now (self .entry)) → Stands input (written ++ vec-items (now (self .entry) .answers)) (now (self .exit))) ⌝ }
     {
         self.answers.clear();
     }

@@ -1,8 +1,7 @@
-use Rattle.decode.proofs.Appending.{after, grows}
+use mathlib.Core.Path.{ap}
+use Rattle.decode.specs.Account.{reply-account}
+use Rattle.decode.proofs.Appending.{after, reworded}
 use Rattle.decode.proofs.account.push_fault.Needs as need
 
-pub returns-in-Some : need.returns-in-Some
-returns-in-Some c = grows (after (c .in-Continue-push-cause .ensures tt) (c .push-reply .ensures))
-
-pub returns-in-None : need.returns-in-None
-returns-in-None c = grows (c .in-Continue-push-cause .ensures tt)
+pub returns : need.returns
+returns c = after (c .in-Continue-push-cause .ensures tt) (reworded (ap reply-account (c .reply .ensures)) (c .push-reply .ensures))

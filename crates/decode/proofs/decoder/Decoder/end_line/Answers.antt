@@ -1,12 +1,11 @@
 use mathlib.Core.List.{[], _++_}
-use mathlib.Core.Path.{_≡_, sym, subst}
+use mathlib.Core.Path.{_≡_, sym, ap}
 use native.Mathlib.Omega.{arith}
 use Rattle.std.specs.Of.Vec.{vec-items, vec-len}
-use Rattle.std.specs.Vec.{made}
 use Rattle.std.proofs.shelf.Lists.{nil-from-length}
 use Rattle.std.proofs.shelf.Tests.{eqb-true}
-use Rattle.decode.specs.Lines.{Answered}
-use Rattle.decode.specs.Spelling.{spelled}
+use Rattle.decode.specs.Lines.{line-answer}
+use Rattle.decode.proofs.Appending.{reworded}
 use Rattle.decode.proofs.Cutting.{always}
 use Rattle.decode.proofs.decoder.Decoder.end_line.Needs as need
 
@@ -16,5 +15,5 @@ returns-then-is-empty c =
     let nil : vec-items (c .args .self .now .line) ≡ [] = nil-from-length _ (omega (arith, c .args .self .now .line .ok .0)) in
     record {
       kept = always (c .answer .result) nil;
-      answered = subst (λ l. made (c .answer .result) (λ _. Answered (spelled (l ++ c .args .bytes .now)) (vec-items (c .args .self .now .answers)) (vec-items (c .answer .last .answers)))) (sym nil) (c .answer .ensures);
+      answered = reworded (ap (λ l. line-answer (l ++ c .args .bytes .now)) (sym nil)) (c .answer .ensures);
     }

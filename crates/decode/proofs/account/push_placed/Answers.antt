@@ -1,5 +1,5 @@
 use Rattle.decode.proofs.Appending.{after, reworded}
-use Rattle.decode.proofs.account.push_cause.Needs as need
+use Rattle.decode.proofs.account.push_placed.Needs as need
 
 pub returns : need.returns
 returns c =
