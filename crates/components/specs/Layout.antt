@@ -17,9 +17,13 @@ pub record Holds (s : Short) (xs : List ℕ) : Type 0 where
   pub few : s .length ≤ 6
   pub octets : held s ≡ xs
 
--- a layout has the tag and the contents of what is said
-pub record Lays (l : Layout) (s : Said) : Type 0 where
-  pub tag : l .tag ≡ component-tag s
+-- a layout has a tag, and these octets behind the length
+pub record LaysOut (l : Layout) (tag′ : ℕ) (xs : List ℕ) : Type 0 where
+  pub tag : l .tag ≡ tag′
   pub few-id : l .id .length ≤ 6
   pub few-middle : l .middle .length ≤ 6
-  pub contents : held (l .id) ++ (held (l .middle) ++ l .parameter .now) ≡ component-contents s
+  pub contents : held (l .id) ++ (held (l .middle) ++ l .parameter .now) ≡ xs
+
+-- it has the tag and the contents of what is said
+abbrev pub Lays : Layout → Said → Type 0
+Lays l s = LaysOut l (component-tag s) (component-contents s)

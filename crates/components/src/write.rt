@@ -8,10 +8,10 @@ ghost use mir.Syntax.{w16};
 ghost use mir.Val.{SFits};
 ghost use Rattle.std.specs.Options.{Cases, mapped};
 ghost use Rattle.std.specs.Orderings.{Decides};
-ghost use Rattle.components.specs.Component.{part, said};
+ghost use Rattle.components.specs.Component.{part, answered, said};
 ghost use Rattle.ber.specs.Integer.{integer-octets};
-ghost use Rattle.components.specs.Layout.{held, Holds, Lays};
-ghost use Rattle.components.specs.Writing.{optional-octets, id-octets, problem-octets, refusal-number, Each, One, Fit, Sound, Sized, Written};
+ghost use Rattle.components.specs.Layout.{Holds, LaysOut, Lays};
+ghost use Rattle.components.specs.Writing.{optional-octets, id-octets, answer-octets, problem-octets, refusal-number, Each, One, Fit, Sound, Sized, Written};
 use crate::component::Answer;
 use crate::component::Component;
 use crate::component::Parameter;
@@ -145,7 +145,7 @@ fn optional<'a>(parameter: Option<Parameter<'a>>) -> Option<&'a [u8]>
 }
 
 // The head of an answer's SEQUENCE, with the operation, and the octets of its value; none for what is not one value.
-fn answered<'a>(answer: Answer<'a>) -> Option<(Short, &'a [u8])>
+fn short_answer<'a>(answer: Answer<'a>) -> Option<(Short, &'a [u8])>
     ensures laid { λ r. ⌜ Cases r (One 6 (answer .entry .parameter .octets .now) → ⊥) (λ p. One 6 (answer .entry .parameter .octets .now) × Holds (p .0) (0x30 ∷ (length (integer-octets (answer .entry .operation)) + length (answer .entry .parameter .octets .now)) ∷ integer-octets (answer .entry .operation)) × (now (p .1) ≡ answer .entry .parameter .octets .now)) ⌝ }
     ensures sized { λ _. ⌜ SFits w16 (answer .entry .operation) ⌝ }
 {
@@ -154,6 +154,47 @@ fn answered<'a>(answer: Answer<'a>) -> Option<(Short, &'a [u8])>
         return None;
     }
     Some((short_sequence(answer.operation, octets.len() as u8), octets))
+}
+
+// Two INTEGERs and a parameter that may be absent: an invoke, or a return error.
+fn two_integers<'a>(
+    tag: u8,
+    first: i16,
+    second: i16,
+    parameter: Option<Parameter<'a>>,
+) -> Option<Layout<'a>>
+    ensures laid { λ r. ⌜ Cases r (Fit 7 (mapped part (parameter .entry)) → ⊥) (λ l. Fit 7 (mapped part (parameter .entry)) × LaysOut l tag (integer-octets first ++ (integer-octets second ++ optional-octets (mapped part (parameter .entry))))) ⌝ }
+    ensures sized { λ _. ⌜ SFits w16 first ⌝ ∗ ⌜ SFits w16 second ⌝ }
+{
+    let octets = optional(parameter)?;
+    Some(Layout {
+        tag,
+        id: short_integer(first),
+        middle: short_integer(second),
+        parameter: octets,
+    })
+}
+
+// An id and an answer that may be absent: a return result.
+fn result_layout<'a>(id: i16, answer: Option<Answer<'a>>) -> Option<Layout<'a>>
+    ensures laid { λ r. ⌜ Cases r (Fit 6 (mapped (λ a. part (a .parameter)) (answer .entry)) → ⊥) (λ l. Fit 6 (mapped (λ a. part (a .parameter)) (answer .entry)) × LaysOut l 0xa2 (integer-octets id ++ answer-octets (mapped answered (answer .entry)))) ⌝ }
+    ensures sized { λ _. ⌜ SFits w16 id ⌝ ∗ ⌜ Each (λ a. SFits w16 (a .operation)) (answer .entry) ⌝ }
+{
+    let (middle, parameter) = match answer {
+        Some(value) => short_answer(value)?,
+        None => return Some(Layout {
+            tag: 0xa2,
+            id: short_integer(id),
+            middle: nothing(),
+            parameter: &[],
+        }),
+    };
+    Some(Layout {
+        tag: 0xa2,
+        id: short_integer(id),
+        middle,
+        parameter,
+    })
 }
 
 impl<'a> Component<'a> {
@@ -167,48 +208,13 @@ impl<'a> Component<'a> {
                 id,
                 operation,
                 argument,
-            } => {
-                let parameter = optional(argument)?;
-                Some(Layout {
-                    tag: 0xa1,
-                    id: short_integer(id),
-                    middle: short_integer(operation),
-                    parameter,
-                })
-            }
-            Component::ReturnResult { id, answer: None } => {
-                Some(Layout {
-                    tag: 0xa2,
-                    id: short_integer(id),
-                    middle: nothing(),
-                    parameter: &[],
-                })
-            }
-            Component::ReturnResult {
-                id,
-                answer: Some(answer),
-            } => {
-                let (middle, parameter) = answered(answer)?;
-                Some(Layout {
-                    tag: 0xa2,
-                    id: short_integer(id),
-                    middle,
-                    parameter,
-                })
-            }
+            } => two_integers(0xa1, id, operation, argument),
+            Component::ReturnResult { id, answer } => result_layout(id, answer),
             Component::ReturnError {
                 id,
                 error,
                 parameter,
-            } => {
-                let parameter = optional(parameter)?;
-                Some(Layout {
-                    tag: 0xa3,
-                    id: short_integer(id),
-                    middle: short_integer(error),
-                    parameter,
-                })
-            }
+            } => two_integers(0xa3, id, error, parameter),
             Component::Reject { id, problem } => {
                 Some(Layout {
                     tag: 0xa4,

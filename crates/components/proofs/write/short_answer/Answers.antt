@@ -2,7 +2,7 @@ use native.Mathlib.Omega.{arith}
 use Prim.Native.Nat.{_≤_}
 use lib.ListN.{length}
 use Rattle.components.proofs.ReadBack.{one-few}
-use Rattle.components.proofs.write.answered.Needs as need
+use Rattle.components.proofs.write.short_answer.Needs as need
 
 pub cast-octets : need.cast-octets
 cast-octets c =
