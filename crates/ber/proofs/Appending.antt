@@ -21,6 +21,7 @@ pub record Alone (x : List ℕ) : Type 0 where
   pub all : size x ≡ length x
 
 module _ (x ys : List ℕ) (one : Alone x) where
+  -- the length octet, the tag and the size are those of the value in front
   second : getD (x ++ ys) 1 0 ≡ getD x 1 0
   second = let inside : 1 < length x = omega (arith, whole-parts x (one .whole) .two) in getD-append-left x ys 0 1 inside
 
@@ -30,6 +31,7 @@ module _ (x ys : List ℕ) (one : Alone x) where
   same-size : size (x ++ ys) ≡ length x
   same-size = ap (λ n. 2 + n) second ∙ one .all
 
+  -- the value in front is held whole
   joint-whole : begins-with-value (x ++ ys) ≡ true
   joint-whole =
       let w = whole-parts x (one .whole) in
@@ -41,12 +43,14 @@ module _ (x ys : List ℕ) (one : Alone x) where
         held = omega (arith, same-size);
       })
 
+  -- and what is taken from the front is that value, with the rest behind it
   joint-front : front (x ++ ys) ≡ x
   joint-front = take-at x ys (size (x ++ ys)) (sym same-size)
 
   joint-behind : behind (x ++ ys) ≡ ys
   joint-behind = drop-at x ys (size (x ++ ys)) (sym same-size)
 
+  -- there is something to take
   some : 0 < length (x ++ ys)
   some = omega (arith, length-append x ys, whole-parts x (one .whole) .two)
 
@@ -70,6 +74,7 @@ module _ (x ys : List ℕ) (one : Alone x) where
 pub alone-values : (p : ℕ) (x : List ℕ) → Alone x → values p x ≡ record { octets = x; place = p } ∷ []
 alone-values p x one = ap (values p) (sym (append-nil x)) ∙ joint-values x [] one p ∙ ap (λ l. record { octets = x; place = p } ∷ l) (no-values (p + length x) [] refl)
 
+-- and as well as it is by itself
 pub alone-list : (n p : ℕ) (x : List ℕ) → Alone x → bad-value n p x ≡ None → bad-list n p x ≡ None
 alone-list n p x one well =
     ap (bad-list n p) (sym (append-nil x)) ∙ joint-list x [] one n p ∙ ap (λ o. or-else o (bad-list n (p + length x) [])) well ∙ empty-list n (p + length x) [] refl
@@ -83,6 +88,7 @@ moves bad move zero p q (x ∷ xs) well =
     ap (λ o. or-else o (first-bad bad (suc (getD xs 0 0)) (suc q) xs)) (move p q (x ∷ xs) (parts .0)) ∙ moves bad move (suc (getD xs 0 0)) (suc p) (suc q) xs (parts .1)
 moves bad move (suc k) p q (x ∷ xs) well = moves bad move k (suc p) (suc q) xs well
 
+-- one level of nesting more
 pub value-moves : (n p q : ℕ) (xs : List ℕ) → bad-value n p xs ≡ None → bad-value n q xs ≡ None
 unfolding bad-value
 value-moves zero p q xs well = let no : _≡_ {A = ℕ} 0 1 = cc in absurd (omega arith)

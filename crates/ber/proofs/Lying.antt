@@ -22,6 +22,7 @@ Lie n p (v ∷ vs) = (v .place ≡ p) × (bad-value n p (v .octets) ≡ None) ×
 abbrev pub together : List Part → List ℕ
 together vs = joined (λ v. v .octets) vs
 
+-- well-structured octets are their values, laid one behind the other; k bounds their number, for the induction
 pub values-lie : (k n p : ℕ) (xs : List ℕ) → length xs ≤ k → bad-list n p xs ≡ None → Lie n p (values p xs) × (together (values p xs) ≡ xs)
 values-lie k n p [] h well = let e = sym (no-values p [] refl) in let P : List Part → Type 0 = λ vs. Lie n p vs × (together vs ≡ []) in subst P e (tt, refl)
 values-lie zero n p (x ∷ xs) h well = absurd (omega arith)

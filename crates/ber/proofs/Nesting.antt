@@ -24,6 +24,7 @@ passes bad (suc k) p (x ∷ xs) =
     let moved : suc p + k ≡ p + suc k = omega arith in
     passes bad k (suc p) xs ∙ ap (λ n. first-bad bad 0 n (drop k xs)) moved
 
+-- the same of the values themselves
 values-pass : (k p : ℕ) (xs : List ℕ) → values-after k p xs ≡ values-after 0 (p + k) (drop k xs)
 unfolding values-after
 values-pass zero p xs = ap (λ n. values-after 0 n xs) (sym (add-zero p))
@@ -125,6 +126,7 @@ pub record Whole (xs : List ℕ) : Type 0 where
   pub length-short : getD xs 1 0 ≤ 127
   pub held : size xs ≤ length xs
 
+-- the test, taken apart and put together
 pub whole-parts : (xs : List ℕ) → begins-with-value xs ≡ true → Whole xs
 whole-parts xs whole =
     let a = and-parts (leb 2 (length xs)) (is-short-tag (tag xs) && (leb (getD xs 1 0) 127 && leb (size xs) (length xs))) whole in
@@ -136,9 +138,11 @@ pub whole-from : (xs : List ℕ) → Whole xs → begins-with-value xs ≡ true
 whole-from xs w =
     and-from _ _ (le-leb _ _ (w .two)) (and-from _ _ (w .tag-short) (and-from _ _ (le-leb _ _ (w .length-short)) (le-leb _ _ (w .held))))
 
+-- a value that is held whole is no longer than what holds it
 pub held-whole : (xs : List ℕ) → begins-with-value xs ≡ true → size xs ≤ length xs
 held-whole xs whole = whole-parts xs whole .held
 
+-- the value at the front has its size, and its tag
 pub front-length : (xs : List ℕ) → begins-with-value xs ≡ true → length (front xs) ≡ size xs
 front-length xs whole = length-take-le (size xs) xs (held-whole xs whole)
 
@@ -147,6 +151,7 @@ front-tag xs = let some : 0 < size xs = omega arith in getD-take (size xs) xs 0 
 
 -- the octets from i up to j, as a window shows them
 module _ (i j : ℕ) (xs : List ℕ) (forward : i ≤ j) (inside : j ≤ length xs) where
+  -- how many octets it shows
   pub window-length : length (between i j xs) ≡ j - i
   window-length = simp (length-take, length-drop) (omega arith)
 

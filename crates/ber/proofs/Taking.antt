@@ -36,6 +36,7 @@ well-whole n p xs well =
     (λ cut. let e = value-cut n p xs (well-level n p xs well) cut in let no : _≡_ {A = ℕ} 0 1 = cc in absurd (omega arith))
     (cases-bool (begins-with-value xs))
 
+-- the value at the front, alone, has the size that it had
 front-size : (xs : List ℕ) → size (front xs) ≡ size xs
 front-size xs = let inside : 1 < size xs = omega arith in ap (λ n. 2 + n) (getD-take (size xs) xs 1 0 inside)
 
@@ -52,6 +53,7 @@ front-whole xs whole =
       held = omega arith;
     })
 
+-- and the same fault, if any
 pub front-same : (n p : ℕ) (xs : List ℕ) → begins-with-value xs ≡ true → bad-value n p (front xs) ≡ bad-value n p xs
 front-same zero p xs whole = no-level p (front xs) ∙ sym (no-level p xs)
 front-same (suc n) p xs whole =
@@ -74,22 +76,28 @@ nothing-left n p (x ∷ xs) well cut =
 
 -- one value is taken from octets that are well: which values they have, and that the rest is well
 module _ (p : ℕ) (xs octets rest : List ℕ) (whole : begins-with-value xs ≡ true) (is-front : octets ≡ front xs) (is-behind : rest ≡ behind xs) where
+  -- its length is its size
   taken-length : length octets ≡ size xs
   taken-length = ap length is-front ∙ front-length xs whole
 
+  -- there was something to take
   some : 0 < length xs
   some = omega (arith, whole-parts xs whole .two)
 
+  -- it is a whole value
   pub taken-size : size octets ≡ length octets
   taken-size = ap size is-front ∙ front-size xs ∙ sym taken-length
 
+  -- nothing is lost between the two parts
   pub taken-whole : length octets + length rest ≡ length xs
   taken-whole = omega (arith, taken-length, ap length is-behind ∙ length-drop (size xs) xs, whole-parts xs whole .held)
 
+  -- it is the first of the values, and the others are those of the rest
   pub taken-values : values p xs ≡ record { octets = octets; place = p } ∷ values (p + length octets) rest
   taken-values =
       values-step p xs some ∙ sym (ap (λ l. record { octets = l; place = p } ∷ values (p + length l) rest) is-front ∙ simp (is-behind, front-length xs whole))
 
+  -- it is well, and so is the rest
   pub taken-well : (n : ℕ) → bad-list n p xs ≡ None → (bad-value n p octets ≡ None) × (bad-list n (p + length octets) rest ≡ None)
   taken-well n well =
       let parts = well-parts n p xs some well in

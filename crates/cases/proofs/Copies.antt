@@ -17,9 +17,11 @@ use Rattle.cases.specs.Copying.{Copies}
 
 -- it is written where there is room, with the octets that it was read from
 module _ (xs before after : List ℕ) (s : Said) (reads : reading xs ≡ Ok s) (octets : encoded s ≡ xs) (place : placed s ≡ s) where
+  -- its octets read back as it
   back : Readable s
   back = ap reading octets ∙ reads ∙ ap Ok (sym place)
 
+  -- so it is refused only for want of room
   pub copied : (r : Result ℕ Refusal) → Written s before after r → Copies xs before after (isOk r)
   copied (Ok n) told = record {
     done = λ _. told .2 ∙ ap (λ l. l ++ drop n before) octets ∙ ap (λ k. xs ++ drop k before) (told .1 ∙ ap length octets);

@@ -35,9 +35,11 @@ use Rattle.ber.proofs.Taking.{both-none}
 
 -- a SEQUENCE of an operation and a value, at a place
 module _ (p : ℕ) (op : ℤ) (xs : List ℕ) (few : length (integer-octets op ++ xs) ≤ 127) where
+  -- its octets
   abbrev pub sequence-octets : List ℕ
   sequence-octets = tagged 0x30 (integer-octets op ++ xs)
 
+  -- it is one value alone
   pub sequence-alone : Alone sequence-octets
   sequence-alone = record { whole = tagged-whole 0x30 (integer-octets op ++ xs) refl few; all = omega arith }
 
@@ -118,11 +120,13 @@ reads-answer p (Some a) few well is =
 
 -- a result, read
 module _ (end : ℕ) (id : ℤ) (o : Option (ℤ × Part)) (fits : SFits w16 id) where
+  -- the id reads, and what comes behind it is left
   result-typed : a-result end (values 5 (integer-octets id ++ answer-octets o)) ≡ and-then (at-most-one an-answer (values (5 + length (integer-octets id)) (answer-octets o))) (λ g. Ok (result id g))
   result-typed =
       ap (a-result end) (one-values 5 7 (lit< tt) id (answer-octets o))
       ∙ ap (λ r. and-then (taken (record { octets = integer-octets id; place = 5 }) (values (5 + length (integer-octets id)) (answer-octets o)) r) (λ i. and-then (at-most-one an-answer (i .1)) (λ g. Ok (result (i .0) g)))) (integer-reads id fits)
 
+  -- the value lies behind the id, the head of the SEQUENCE and the operation
   moved-there : (mapped (answer-at (5 + length (integer-octets id))) o ≡ mapped (answer-moved id) o)
   moved-there = same o
     where
@@ -132,15 +136,18 @@ module _ (end : ℕ) (id : ℤ) (o : Option (ℤ × Part)) (fits : SFits w16 id)
           let e : 5 + length (integer-octets id) + 2 + length (integer-octets (a .0)) ≡ 5 + (length (integer-octets id) + (2 + length (integer-octets (a .0)))) = omega arith in
           ap (λ q. Some (a .0, moved q (a .1))) e
 
+  -- what stands behind the id is not too long
   few-left : length (integer-octets id ++ answer-octets o) ≤ 127 → length (answer-octets o) ≤ 129
   few-left few = omega (arith, length-append (integer-octets id) (answer-octets o))
 
+  -- with an answer of one value, or none, it reads as the result
   pub result-reads : Each (λ a. SFits w16 (a .0)) o → length (integer-octets id ++ answer-octets o) ≤ 127 → Fit 6 (mapped (λ a. a .1) o)
       → (bad-list 7 5 (integer-octets id ++ answer-octets o) ≡ None) × (a-result end (values 5 (integer-octets id ++ answer-octets o)) ≡ Ok (result id (mapped (answer-moved id) o)))
   result-reads each few fit =
       let r = answer-reads (5 + length (integer-octets id)) o each (few-left few) fit in
       (one-list 5 7 (lit< tt) id (answer-octets o) ∙ r .0, result-typed ∙ ap (λ t. and-then t (λ g. Ok (result id g))) (r .1 ∙ ap Ok moved-there))
 
+  -- and if it reads as the result, the answer has one value
   pub result-fit : length (integer-octets id ++ answer-octets o) ≤ 127 → bad-list 7 5 (integer-octets id ++ answer-octets o) ≡ None
       → a-result end (values 5 (integer-octets id ++ answer-octets o)) ≡ Ok (result id (mapped (answer-moved id) o)) → Fit 6 (mapped (λ a. a .1) o)
   result-fit few well is =
@@ -153,10 +160,12 @@ id-alone : (id : Option ℤ) → Alone (id-octets id)
 id-alone None = record { whole = refl; all = refl }
 id-alone (Some n) = integer-alone n
 
+-- it is well
 id-well : (id : Option ℤ) → bad-value 7 5 (id-octets id) ≡ None
 id-well None = value-plain 7 5 (tagged 5 []) (lit< tt) refl refl
 id-well (Some n) = integer-well 7 5 n (lit< tt)
 
+-- and reads as itself
 id-reads : (id : Option ℤ) → Each (λ n. SFits w16 n) id → integer-or-null (record { octets = id-octets id; place = 5 }) ≡ Some id
 id-reads None fits = refl
 id-reads (Some n) fits = ap (mapped Some) (integer-reads n fits)
@@ -168,18 +177,21 @@ problem-alone (problem.Invoke code) = record { whole = refl; all = refl }
 problem-alone (problem.ReturnResult code) = record { whole = refl; all = refl }
 problem-alone (problem.ReturnError code) = record { whole = refl; all = refl }
 
+-- it is well
 problem-well : (p : ℕ) (why : Problem) → bad-value 7 p (problem-octets why) ≡ None
 problem-well p (problem.General code) = value-plain 7 p (tagged 0x80 (code ∷ [])) (lit< tt) refl refl
 problem-well p (problem.Invoke code) = value-plain 7 p (tagged 0x81 (code ∷ [])) (lit< tt) refl refl
 problem-well p (problem.ReturnResult code) = value-plain 7 p (tagged 0x82 (code ∷ [])) (lit< tt) refl refl
 problem-well p (problem.ReturnError code) = value-plain 7 p (tagged 0x83 (code ∷ [])) (lit< tt) refl refl
 
+-- and reads as itself
 problem-reads : (why : Problem) → as-problem (problem-octets why) ≡ Some why
 problem-reads (problem.General code) = refl
 problem-reads (problem.Invoke code) = refl
 problem-reads (problem.ReturnResult code) = refl
 problem-reads (problem.ReturnError code) = refl
 
+-- a reject, read
 pub reject-reads : (end : ℕ) (id : Option ℤ) (why : Problem) → Each (λ n. SFits w16 n) id
     → (bad-list 7 5 (id-octets id ++ problem-octets why) ≡ None) × (a-reject end (values 5 (id-octets id ++ problem-octets why)) ≡ Ok (reject id why))
 reject-reads end id why fits =

@@ -39,6 +39,7 @@ tags-known (result id answer) = refl
 tags-known (error id code parameter) = refl
 tags-known (reject id why) = refl
 
+-- nothing later changes nothing
 or-none : (o : Option ℕ) → or-else o None ≡ o
 or-none None = refl
 or-none (Some p) = refl
@@ -52,6 +53,7 @@ tagged-fault t xs short nested few =
     ∙ value-nested 8 3 (tagged t xs) (lit< tt) (tagged-whole t xs short few) nested
     ∙ ap (λ l. bad-list 7 5 (drop 2 l)) (take-all (2 + length xs) (tagged t xs) (omega arith))
 
+-- the head of an element that is not too long is well
 encoded-head : (s : Said) → length (component-contents s) ≤ 127 → head-fault (encoded s) ≡ None
 encoded-head s few = grind (arith, tells)
 

@@ -67,18 +67,22 @@ unfolding reading
 reading-head xs f bad = ap (λ o. unless o (reading-component (drop 3 xs))) bad
 
 module _ (xs ys : List ℕ) (head : head-fault xs ≡ None) (is : ys ≡ drop 3 xs) where
+  -- with a good head, reading goes on with the component
   pub behind-head : reading xs ≡ reading-component ys
   unfolding reading
   behind-head = ap (λ o. unless o (reading-component (drop 3 xs))) head ∙ ap reading-component (sym is)
 
+  -- cause 15
   pub reading-tag : is-component-tag (tag ys) ≡ false → reading xs ≡ Err (at Tag 3)
   unfolding reading-component
   reading-tag bad = behind-head ∙ cond-false _ _ _ bad
 
+  -- cause 16
   pub reading-structure : (p : ℕ) → is-component-tag (tag ys) ≡ true → bad-component ys ≡ Some p → reading xs ≡ Err (at Structure p)
   unfolding reading-component
   reading-structure p known bad = behind-head ∙ cond-true _ _ _ known ∙ ap (λ o. structured o (by-tag (tag ys) (3 + length ys) (values 5 (drop 2 ys)))) bad
 
+  -- and else the values by their types
   pub reading-typed : is-component-tag (tag ys) ≡ true → bad-component ys ≡ None → reading xs ≡ by-tag (tag ys) (3 + length ys) (values 5 (drop 2 ys))
   unfolding reading-component
   reading-typed known well = behind-head ∙ cond-true _ _ _ known ∙ ap (λ o. structured o (by-tag (tag ys) (3 + length ys) (values 5 (drop 2 ys)))) well

@@ -17,6 +17,7 @@ pub then-parts : {X Y : Type 0} (r : Result X Fault) (next : X → Result Y Faul
 then-parts (Ok x) next y h = (x, refl, h)
 then-parts (Err f) next y h = let no : _≡_ {A = ℕ} 0 1 = cc in absurd (omega arith)
 
+-- the value was read, and the others are left
 taken-parts : {X : Type 0} (v : Part) (vs : List Part) (o : Option X) (x : X) (ws : List Part) → taken v vs o ≡ Ok (x, ws) → (o ≡ Some x) × (vs ≡ ws)
 taken-parts {X} v vs (Some y) x ws h =
     let e : _≡_ {A = X × List Part} (y, vs) (x, ws) = cc in

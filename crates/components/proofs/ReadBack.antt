@@ -30,12 +30,14 @@ use Rattle.ber.proofs.Taking.{well-whole}
 abbrev Contents : Said → Type 0
 Contents s = (bad-list 7 5 (component-contents s) ≡ None) × (by-tag (component-tag s) (5 + length (component-contents s)) (values 5 (component-contents s)) ≡ Ok (placed s))
 
+-- by the four components
 contents-read : (s : Said) → Sized s → Sound s → length (component-contents s) ≤ 127 → Contents s
 contents-read (invoke id op o) fits sound few = two-reads invoke _ id op o (fits .0) (fits .1) sound
 contents-read (result id o) fits sound few = result-reads _ id o (fits .0) (fits .1) few sound
 contents-read (error id code o) fits sound few = two-reads error _ id code o (fits .0) (fits .1) sound
 contents-read (reject id why) fits sound few = reject-reads _ id why fits
 
+-- and the other way
 contents-sound : (s : Said) → Sized s → length (component-contents s) ≤ 127 → Contents s → Sound s
 contents-sound (invoke id op o) fits few is = two-fit invoke _ id op o (fits .0) (fits .1) (λ g h e. cc) (is .0) (is .1)
 contents-sound (result id o) fits few is = result-fit _ id o (fits .0) few (is .0) (is .1)
@@ -77,10 +79,12 @@ problem-long (problem.Invoke code) = refl
 problem-long (problem.ReturnResult code) = refl
 problem-long (problem.ReturnError code) = refl
 
+-- an id has at most four octets
 id-long : (id : Option ℤ) → length (id-octets id) ≤ 4
 id-long None = omega arith
 id-long (Some n) = integer-long n
 
+-- so that a reject always fits
 pub reject-fits : (s : Said) (id : Option ℤ) (why : Problem) → s ≡ reject id why → Sized s → (before after : List ℕ) (e : Refusal) → 12 ≤ length before → Written s before after (Err e) → ⊥
 reject-fits s id why is fits before after e room told = refused e (subst (λ y. Written y before after (Err e)) is told)
   where

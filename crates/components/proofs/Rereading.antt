@@ -37,6 +37,7 @@ pub record Head (xs : List ℕ) : Type 0 where
   pub counted : getD xs 1 0 + 2 ≡ length xs
   pub profile : getD xs 2 0 ≡ 0x91
 
+-- what the tests of the head say when they pass
 pub head-parts : (xs : List ℕ) → head-fault xs ≡ None → Head xs
 head-parts xs none = record { some = grind (arith, tells); few = grind (arith, tells); identifier = grind (arith, tells); counted = grind (arith, tells); profile = grind (arith, tells) }
 
@@ -47,6 +48,7 @@ pub record Reads (xs : List ℕ) (s : Said) : Type 0 where
   pub well : bad-component (drop 3 xs) ≡ None
   pub typed : by-tag (tag (drop 3 xs)) (3 + length (drop 3 xs)) (values 5 (drop 2 (drop 3 xs))) ≡ Ok s
 
+-- no fault, and what was read then
 unless-parts : (o : Option Fault) (r : Result Said Fault) (s : Said) → unless o r ≡ Ok s → (o ≡ None) × (r ≡ Ok s)
 unless-parts None r s h = (refl, h)
 unless-parts (Some f) r s h = let no : _≡_ {A = ℕ} 0 1 = cc in absurd (omega arith)
@@ -55,6 +57,7 @@ pub structured-parts : (o : Option ℕ) (r : Result Said Fault) (s : Said) → s
 structured-parts None r s h = (refl, h)
 structured-parts (Some p) r s h = let no : _≡_ {A = ℕ} 0 1 = cc in absurd (omega arith)
 
+-- reading, taken apart
 pub reads-parts : (xs : List ℕ) (s : Said) → reading xs ≡ Ok s → Reads xs s
 unfolding reading reading-component
 reads-parts xs s is =

@@ -49,6 +49,7 @@ integer-well n p z some = value-plain n p (integer-octets z) some (integer-alone
 
 -- what stands behind one INTEGER, and behind two
 module _ (p n : ℕ) (some : 0 < n) where
+  -- its values, and its first fault, are those of what stands behind
   pub one-values : (a : ℤ) (xs : List ℕ) → values p (integer-octets a ++ xs) ≡ record { octets = integer-octets a; place = p } ∷ values (p + length (integer-octets a)) xs
   one-values a xs = joint-values (integer-octets a) xs (integer-alone a) p
 
@@ -59,6 +60,7 @@ module _ (p n : ℕ) (some : 0 < n) where
 abbrev pub behind-two : ℤ → ℤ → ℕ
 behind-two a b = 5 + (length (integer-octets a) + length (integer-octets b))
 
+-- the same behind two INTEGERs
 pub two-values : (a b : ℤ) (xs : List ℕ) → values 5 (integer-octets a ++ (integer-octets b ++ xs))
     ≡ record { octets = integer-octets a; place = 5 } ∷ record { octets = integer-octets b; place = 5 + length (integer-octets a) } ∷ values (behind-two a b) xs
 two-values a b xs =
@@ -116,21 +118,25 @@ two-typed made end a b p q us fa fb =
 
 -- the contents of an invoke and of an error, read: `made` is the component made of them
 module _ (made : ℤ → ℤ → Option Part → Said) (end : ℕ) (a b : ℤ) (o : Option Part) (fa : SFits w16 a) (fb : SFits w16 b) where
+  -- the contents
   abbrev pub two-contents : List ℕ
   two-contents = integer-octets a ++ (integer-octets b ++ optional-octets o)
 
+  -- both INTEGERs read, and what comes behind them is left
   typed-as : and-then (first an-integer end (values 5 two-contents)) (λ i. and-then (first an-integer end (i .1)) (λ k. and-then (at-most-one any (k .1)) (λ g. Ok (made (i .0) (k .0) g))))
       ≡ and-then (at-most-one any (values (behind-two a b) (optional-octets o))) (λ g. Ok (made a b g))
   typed-as =
       ap (λ vs. and-then (first an-integer end vs) (λ i. and-then (first an-integer end (i .1)) (λ k. and-then (at-most-one any (k .1)) (λ g. Ok (made (i .0) (k .0) g))))) (two-values a b (optional-octets o))
       ∙ two-typed made end a b 5 (5 + length (integer-octets a)) (values (behind-two a b) (optional-octets o)) fa fb
 
+  -- with one value or none behind them they read as the component
   pub two-reads : Fit 7 o → (bad-list 7 5 two-contents ≡ None)
       × (and-then (first an-integer end (values 5 two-contents)) (λ i. and-then (first an-integer end (i .1)) (λ k. and-then (at-most-one any (k .1)) (λ g. Ok (made (i .0) (k .0) g)))) ≡ Ok (made a b (mapped (moved (behind-two a b)) o)))
   two-reads fit =
       let r = fit-reads 7 (behind-two a b) o fit in
       (two-list a b (optional-octets o) ∙ r .0, typed-as ∙ ap (λ q. and-then q (λ g. Ok (made a b g))) (r .1))
 
+  -- and if they read as the component, one value or none stands behind them
   pub two-fit : ((g h : Option Part) → made a b g ≡ made a b h → g ≡ h) → bad-list 7 5 two-contents ≡ None
       → and-then (first an-integer end (values 5 two-contents)) (λ i. and-then (first an-integer end (i .1)) (λ k. and-then (at-most-one any (k .1)) (λ g. Ok (made (i .0) (k .0) g)))) ≡ Ok (made a b (mapped (moved (behind-two a b)) o))
       → Fit 7 o

@@ -55,6 +55,7 @@ pub record Two (vs : List Part) (a b : ℤ) (o : Option Part) : Type 0 where
   pub octets : integer-octets a ++ (integer-octets b ++ optional-octets o) ≡ together vs
   pub place : mapped (moved (5 + (length (integer-octets a) + length (integer-octets b)))) o ≡ o
 
+-- two INTEGERs, read and written
 two : (n : ℕ) (v w : Part) (us : List Part) (a b : ℤ) (o : Option Part) → Lie n 5 (v ∷ w ∷ us) → Octets (together (v ∷ w ∷ us))
     → an-integer v ≡ Some a → an-integer w ≡ Some b → at-most-one any us ≡ Ok o → Two (v ∷ w ∷ us) a b o
 two n v w us a b o lie all v-is w-is o-is =
@@ -81,6 +82,7 @@ two n v w us a b o lie all v-is w-is o-is =
 
 -- an invoke and an error have two INTEGERs and at most one value; `made` is the component made of them
 module _ (made : ℤ → ℤ → Option Part → Said) (n end : ℕ) (vs : List Part) (s : Said) (lie : Lie n 5 vs) (all : Octets (together vs)) where
+  -- which are the INTEGERs and the value, and how they are written
   pub two-rewrites : and-then (first an-integer end vs) (λ i. and-then (first an-integer end (i .1)) (λ o. and-then (at-most-one any (o .1)) (λ g. Ok (made (i .0) (o .0) g)))) ≡ Ok s
       → (a b : ℤ) × (o : Option Part) × (s ≡ made a b o) × Two vs a b o
   two-rewrites is =
@@ -96,12 +98,14 @@ module _ (made : ℤ → ℤ → Option Part → Said) (n end : ℕ) (vs : List 
       let said : s ≡ made (i .0 .0) (o .0 .0) (g .0) = cc in
       (i .0 .0, o .0 .0, g .0, said, subst Q whole (two n (v .0) (w .0) (o .0 .1) (i .0 .0) (o .0 .0) (g .0) (known .0) (known .1) (v .2) (w .2) (g .1)))
 
+-- an invoke
 pub invoke-rewrites : (n end : ℕ) (vs : List Part) (s : Said) → Lie n 5 vs → Octets (together vs) → an-invoke end vs ≡ Ok s → (component-tag s ≡ 0xa1) × Rewrites s vs
 invoke-rewrites n end vs s lie all is =
     let t = two-rewrites invoke n end vs s lie all is in
     let P : Said → Type 0 = λ y. (component-tag y ≡ 0xa1) × Rewrites y vs in
     subst P (sym (t .3)) (refl, record { contents = t .4 .octets; same = ap (invoke (t .0) (t .1)) (t .4 .place) })
 
+-- a return error
 pub error-rewrites : (n end : ℕ) (vs : List Part) (s : Said) → Lie n 5 vs → Octets (together vs) → an-error end vs ≡ Ok s → (component-tag s ≡ 0xa3) × Rewrites s vs
 error-rewrites n end vs s lie all is =
     let t = two-rewrites error n end vs s lie all is in
@@ -158,6 +162,7 @@ id-rewrites v id all is =
     number-of None writes id e = let no : _≡_ {A = ℕ} 0 1 = cc in absurd (omega arith)
     number-of (Some n) writes id e = let same : Some n ≡ id = cc in ap id-octets (sym same) ∙ writes n refl
 
+-- a reject
 pub reject-rewrites : (n end : ℕ) (vs : List Part) (s : Said) → Lie n 5 vs → Octets (together vs) → a-reject end vs ≡ Ok s → (component-tag s ≡ 0xa4) × Rewrites s vs
 reject-rewrites n end vs s lie all is =
     let i = then-parts (first integer-or-null end vs) (λ id. and-then (first a-problem end (id .1)) (λ why. and-then (nothing-more (why .1)) (λ _. Ok (reject (id .0) (why .0))))) s is in
@@ -204,6 +209,7 @@ answer-rewrites n w a all well is =
         )
     two-left n p (v ∷ u ∷ t ∷ ts) a lie all e = let no : _≡_ {A = ℕ} 0 1 = cc in absurd (omega arith)
 
+-- a return result
 pub result-rewrites : (n end : ℕ) (vs : List Part) (s : Said) → Lie n 5 vs → Octets (together vs) → a-result end vs ≡ Ok s → (component-tag s ≡ 0xa2) × Rewrites s vs
 result-rewrites n end vs s lie all is =
     let i = then-parts (first an-integer end vs) (λ id. and-then (at-most-one an-answer (id .1)) (λ answer. Ok (result (id .0) answer))) s is in

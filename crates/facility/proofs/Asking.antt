@@ -45,6 +45,7 @@ use Rattle.components.proofs.Rewriting.{Octets, code-rewrites}
 number-reads : (n : ℕ) → n ≤ 127 → a-number (number-octets n) ≡ Some n
 number-reads n small = cond-true (leb n 127) (Some n) None (le-leb n 127 small)
 
+-- a number is one value, and so are two in a SEQUENCE
 number-one : (n : ℕ) → One 7 (number-octets n)
 number-one n = record { well = value-plain 7 0 (number-octets n) (lit< tt) refl refl; all = refl }
 
@@ -62,6 +63,7 @@ argument-fits (request.Drop n) = number-one n
 argument-fits (request.Isolate n) = number-one n
 argument-fits (request.Reattach n) = number-one n
 
+-- the codes are numbers of one octet
 code-fits : (r : Request) → SFits w16 (pos (request-code r))
 code-fits (request.Begin size) = record { sfits = lit< tt }
 code-fits (request.Add n) = record { sfits = lit< tt }
@@ -70,6 +72,7 @@ code-fits (request.Drop n) = record { sfits = lit< tt }
 code-fits (request.Isolate n) = record { sfits = lit< tt }
 code-fits (request.Reattach n) = record { sfits = lit< tt }
 
+-- no argument has more than eight octets
 argument-short : (r : Request) → length (optional-octets (mapped (λ xs. record { octets = xs; place = 0 }) (request-argument r))) ≤ 8
 argument-short (request.Begin None) = omega arith
 argument-short (request.Begin (Some n)) = omega arith
@@ -119,6 +122,7 @@ number-was xs n is =
     some-same : {a b : ℕ} → Some a ≡ Some b → a ≡ b
     some-same e = cc
 
+-- both were there
 both-parts : (o q : Option ℕ) (a b : ℕ) → both o q ≡ Some (a, b) → (o ≡ Some a) × (q ≡ Some b)
 both-parts (Some x) (Some y) a b e = let same : _≡_ {A = ℕ × ℕ} (x, y) (a, b) = cc in (ap (λ p. Some (p .0)) same, ap (λ p. Some (p .1)) same)
 both-parts (Some x) None a b e = let no : _≡_ {A = ℕ} 0 1 = cc in absurd (omega arith)
@@ -148,6 +152,7 @@ operation-code operation.Drop = 43
 operation-code operation.Isolate = 44
 operation-code operation.Reattach = 45
 
+-- the code of an operation that was read
 operation-was : (code : ℤ) (op : Operation) → operation-of code ≡ Some op → code ≡ pos (operation-code op)
 operation-was (negsuc n) op is = let no : _≡_ {A = ℕ} 0 1 = cc in absurd (omega arith)
 operation-was (pos n) op is = ap pos (by op is)
@@ -166,6 +171,7 @@ record Asked (op : Operation) (o : Option (List ℕ)) (r : Request) : Type 0 whe
   argument : o ≡ request-argument r
   range : InRange r
 
+-- a request of one number
 with-number : (op : Operation) (make : ℕ → Request) (r : Request) (xs : List ℕ) → ((n : ℕ) → n ≤ 127 → Asked op (Some (number-octets n)) (make n)) → mapped make (a-number xs) ≡ Some r → Asked op (Some xs) r
 with-number op make r xs each is = by (a-number xs) (number-was xs) is
   where
@@ -177,6 +183,7 @@ with-number op make r xs each is = by (a-number xs) (number-was xs) is
         let there = each n (known .1) in
         subst (Asked op (Some xs)) same (record { code = there .code; argument = ap Some (known .0) ∙ there .argument; range = there .range })
 
+-- each operation, with and without an argument
 asks-were : (op : Operation) (o : Option (List ℕ)) (r : Request) → asks op o ≡ Some r → Asked op o r
 asks-were operation.Begin None r is = let same : request.Begin None ≡ r = cc in subst (Asked operation.Begin None) same (record { code = refl; argument = refl; range = tt })
 asks-were operation.Begin (Some xs) r is = with-number operation.Begin (λ n. request.Begin (Some n)) r xs (λ n small. record { code = refl; argument = refl; range = small }) is
@@ -211,6 +218,7 @@ request-was id code o op r op-is r-is =
 
 -- whatever reads as a request has that request's octets
 module _ (xs : List ℕ) (all : Octets xs) (end : ℕ) (a : RequestInvoke) where
+  -- the argument was right
   was-asked : (id code : ℤ) (o : Option Part) (op : Operation) (q : Option Request) → reading xs ≡ Ok (invoke id code o) → operation-of code ≡ Some op → asks op (octets-in o) ≡ q → asked end id o q ≡ Ok a
       → InRange (a .request) × (xs ≡ request-octets a)
   was-asked id code o op None reads op-is q-is h = let no : _≡_ {A = ℕ} 0 1 = cc in absurd (omega arith)
@@ -219,16 +227,19 @@ module _ (xs : List ℕ) (all : Octets xs) (end : ℕ) (a : RequestInvoke) where
       subst (λ b. InRange (b .request) × (xs ≡ request-octets b)) same
       (asks-were op (octets-in o) r q-is .range, sym (read-writes xs (invoke id code o) all reads .0) ∙ request-was id code o op r op-is q-is)
 
+  -- the operation was known
   was-operation : (id code : ℤ) (o : Option Part) (q : Option Operation) → reading xs ≡ Ok (invoke id code o) → operation-of code ≡ q → by-operation end id o q ≡ Ok a → InRange (a .request) × (xs ≡ request-octets a)
   was-operation id code o None reads q-is h = let no : _≡_ {A = ℕ} 0 1 = cc in absurd (omega arith)
   was-operation id code o (Some op) reads q-is h = was-asked id code o op (asks op (octets-in o)) reads q-is refl h
 
+  -- the component was an invoke
   was-requested : (s : Said) → reading xs ≡ Ok s → requested end s ≡ Ok a → InRange (a .request) × (xs ≡ request-octets a)
   was-requested (invoke id code o) reads h = was-operation id code o (operation-of code) reads refl h
   was-requested (result id answer) reads h = let no : _≡_ {A = ℕ} 0 1 = cc in absurd (omega arith)
   was-requested (error id code o) reads h = let no : _≡_ {A = ℕ} 0 1 = cc in absurd (omega arith)
   was-requested (reject id why) reads h = let no : _≡_ {A = ℕ} 0 1 = cc in absurd (omega arith)
 
+-- of what a call answers
 pub request-only : (xs : List ℕ) (r : Result RequestInvoke Fault) → Octets xs → r ≡ requesting xs → made r (λ a. SFits w16 (a .id)) → made r (λ a. Lawful a × (xs ≡ request-octets a))
 request-only xs (Err f) all is fits = tt
 request-only xs (Ok a) all is fits =
