@@ -7,5 +7,5 @@ use Rattle.cases.proofs.copying.copy_element.Goals as goal
 pub returns-in-Ok : goal.returns-in-Ok
 returns-in-Ok c =
     let told = c.in-Ok.ensures in
-    subst (Copies c.args.octets.now c.args.memory.now c.write.new.memory) (sym c.is-ok.ensures.value)
+    subst (Copies c.args.octets.now c.args.memory.now c.write.new.memory) (sym c.is_ok.ensures.value)
     (copied c.args.octets.now c.args.memory.now c.write.new.memory (said c.in-Ok.component) (sym told.reads) told.rewrites.0 told.rewrites.1 c.write.result c.write.ensures.written)

@@ -7,7 +7,7 @@ use Rattle.components.proofs.values.answer.Goals as goal
 pub integer-requires : goal.integer-requires
 integer-requires c =
     let v = c.args.value in
-    let found = c.in-ok-rest.ensures in
+    let found = c.in_ok-rest.ensures in
     let whole = whole_parts v.octets.now (well_whole c.requires.levels v.place v.octets.now c.requires.well) in
     record {
       levels = c.requires.levels - 1;

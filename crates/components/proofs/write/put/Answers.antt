@@ -12,5 +12,5 @@ returns c =
     let end : at + k ≡ at + length xs = omega arith in
     record {
       place = refl;
-      written = ap (put_mid at k mem) c.copy-from-slice.ensures.after ∙ ap (λ l. take at mem ++ (xs ++ l)) (drop-drop k at mem ∙ ap (λ m. drop m mem) end);
+      written = ap (put_mid at k mem) c.copy_from_slice.ensures.after ∙ ap (λ l. take at mem ++ (xs ++ l)) (drop-drop k at mem ∙ ap (λ m. drop m mem) end);
     }

@@ -4,8 +4,8 @@ use Rattle.components.proofs.write.short_answer.Goals as goal
 
 pub overflow-cast-octets : goal.overflow-cast-octets
 overflow-cast-octets c =
-    let few : length c.args.answer.parameter.octets.now ≤ 129 = one_few _ _ (c.is-one-value.ensures.0 c.if-not-is-one-value.false) in
+    let few : length c.args.answer.parameter.octets.now ≤ 129 = one_few _ _ (c.is_one_value.ensures.0 c.if-not-is_one_value.false) in
     record { fits = omega arith }
 
-pub short-sequence-requires : goal.short-sequence-requires
-short-sequence-requires c = one_few _ _ (c.is-one-value.ensures.0 c.if-not-is-one-value.false)
+pub short_sequence-requires : goal.short_sequence-requires
+short_sequence-requires c = one_few _ _ (c.is_one_value.ensures.0 c.if-not-is_one_value.false)

@@ -6,5 +6,5 @@ use Rattle.decode.proofs.account.push_code.Goals as goal
 
 pub returns : goal.returns
 returns c =
-    after c.in-ok-push-word.ensures
-    (reworded (ap signed_decimal (to_z-of_z w16 c.args.n c.ranges.n)) c.push-signed.ensures)
+    after c.in_ok-push_word.ensures
+    (reworded (ap signed_decimal (to_z-of_z w16 c.args.n c.ranges.n)) c.push_signed.ensures)

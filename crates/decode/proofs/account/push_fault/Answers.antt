@@ -4,4 +4,4 @@ use Rattle.decode.proofs.Appending.{after, reworded}
 use Rattle.decode.proofs.account.push_fault.Goals as goal
 
 pub returns : goal.returns
-returns c = after c.in-ok-push-cause.ensures (reworded (ap reply_account c.reply.ensures) c.push-reply.ensures)
+returns c = after c.in_ok-push_cause.ensures (reworded (ap reply_account c.reply.ensures) c.push_reply.ensures)

@@ -8,4 +8,4 @@ use Rattle.decode.proofs.account.push_parameter.Goals as goal
 pub returns : goal.returns
 returns c =
     reworded (ap (λ p. parameter_text p.octets.now p.place) c.in-Some.field-0-is ∙ sym (ap (λ o. optional_text (λ p. parameter_text p.octets p.place) (option_map part o)) c.in-Some.is))
-    (after c.in-ok-push-octets.ensures (after c.in-ok-push-word.ensures c.push-number.ensures))
+    (after c.in_ok-push_octets.ensures (after c.in_ok-push_word.ensures c.push_number.ensures))

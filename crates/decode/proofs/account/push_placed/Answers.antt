@@ -3,6 +3,6 @@ use Rattle.decode.proofs.account.push_placed.Goals as goal
 
 pub returns : goal.returns
 returns c =
-    after c.in-ok-push-named.ensures
-    (after c.in-ok-push-word.ensures
-    (after c.in-ok-push-number.ensures (reworded c.layer-word.ensures c.push-word-2.ensures)))
+    after c.in_ok-push_named.ensures
+    (after c.in_ok-push_word.ensures
+    (after c.in_ok-push_number.ensures (reworded c.layer_word.ensures c.push_word-2.ensures)))

@@ -4,7 +4,7 @@ use Rattle.decode.proofs.Appending.{reworded}
 use Rattle.decode.proofs.account.push_problem.Goals as goal
 
 pub returns-in-ReturnResult : goal.returns-in-ReturnResult
-returns-in-ReturnResult c = reworded (sym (ap problem_text c.in-ReturnResult.is)) c.push-named-in-ReturnResult.ensures
+returns-in-ReturnResult c = reworded (sym (ap problem_text c.in-ReturnResult.is)) c.push_named-in-ReturnResult.ensures
 
 pub returns-in-ReturnError : goal.returns-in-ReturnError
-returns-in-ReturnError c = reworded (sym (ap problem_text c.in-ReturnError.is)) c.push-named-in-ReturnError.ensures
+returns-in-ReturnError c = reworded (sym (ap problem_text c.in-ReturnError.is)) c.push_named-in-ReturnError.ensures

@@ -16,9 +16,9 @@ nothing-under (Reject id problem) xs n = refl
 
 pub returns-in-Invoke : goal.returns-in-Invoke
 returns-in-Invoke c =
-    after c.in-ok-push-component.ensures
-    (reworded (ap (λ v. under (said v) c.args.octets.now) (sym c.in-Invoke.is)) c.push-invoked.ensures)
+    after c.in_ok-push_component.ensures
+    (reworded (ap (λ v. under (said v) c.args.octets.now) (sym c.in-Invoke.is)) c.push_invoked.ensures)
 
-pub returns-in-default : goal.returns-in-default
-returns-in-default c =
-    and_nothing (nothing-under c.args.component c.args.octets.now c.in-default.not-Invoke) c.in-ok-push-component.ensures
+pub returns-in_default : goal.returns-in_default
+returns-in_default c =
+    and_nothing (nothing-under c.args.component c.args.octets.now c.in_default.not-Invoke) c.in_ok-push_component.ensures

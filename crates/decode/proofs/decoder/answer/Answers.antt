@@ -16,16 +16,16 @@ reads_as line os e = subst (λ k. Reads (spelled line) k os) e
 
 pub returns-in-Blank : goal.returns-in-Blank
 returns-in-Blank c =
-    let blank = reads_as c.args.line.now (vec_items c.read-octets.new.octets) c.in-Blank.is c.in-ok-read-octets.ensures in
+    let blank = reads_as c.args.line.now (vec_items c.read_octets.new.octets) c.in-Blank.is c.in_ok-read_octets.ensures in
     reworded (ap spelling_answer (sym blank)) (record { added = sym (append-nil (vec_items c.args.answers.now)) })
 
 pub returns-in-Octets : goal.returns-in-Octets
 returns-in-Octets c =
-    let os = vec_items c.read-octets.new.octets in
-    let read = reads_as c.args.line.now os c.in-Octets.is c.in-ok-read-octets.ensures in
-    reworded (ap account c.as-slice.ensures.value ∙ some-octets os read.1 ∙ ap spelling_answer (sym read.0)) c.push-account.ensures
+    let os = vec_items c.read_octets.new.octets in
+    let read = reads_as c.args.line.now os c.in-Octets.is c.in_ok-read_octets.ensures in
+    reworded (ap account c.as_slice.ensures.value ∙ some-octets os read.1 ∙ ap spelling_answer (sym read.0)) c.push_account.ensures
 
 pub returns-in-NotOctets : goal.returns-in-NotOctets
 returns-in-NotOctets c =
-    let none = reads_as c.args.line.now (vec_items c.read-octets.new.octets) c.in-NotOctets.is c.in-ok-read-octets.ensures in
-    reworded (ap spelling_answer (sym none)) c.push-word.ensures
+    let none = reads_as c.args.line.now (vec_items c.read_octets.new.octets) c.in-NotOctets.is c.in_ok-read_octets.ensures in
+    reworded (ap spelling_answer (sym none)) c.push_word.ensures

@@ -6,8 +6,8 @@ use Rattle.decode.proofs.figures.push_pairs.Goals as goal
 
 pub loop-octet-preserved : goal.loop-octet-preserved
 loop-octet-preserved c =
-    pairs_more _ _ _ _ _ _ _ c.loop-octet-test.true c.loop-octet.invariant c.hex_digit.ensures c.hex-digit-in-loop-octet.ensures
-    c.in-ok-extend-from-slice.ensures.items
+    pairs_more _ _ _ _ _ _ _ c.loop-octet-test.true c.loop-octet.invariant c.hex_digit.ensures c.hex_digit-in-loop-octet.ensures
+    c.in_ok-extend_from_slice.ensures.items
 
 pub returns : goal.returns
 returns c =

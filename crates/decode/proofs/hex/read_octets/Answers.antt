@@ -4,27 +4,27 @@ use Rattle.decode.specs.Spelling.{spelled}
 use Rattle.decode.proofs.Reading.{behind, tail, white_turn, pair_turn, bad_turn, blank}
 use Rattle.decode.proofs.hex.read_octets.Goals as goal
 
-pub loop-rest-preserved-then-is-white : goal.loop-rest-preserved-then-is-white
-loop-rest-preserved-then-is-white c =
+pub loop-rest-preserved-then-is_white : goal.loop-rest-preserved-then-is_white
+loop-rest-preserved-then-is_white c =
     let some : 0 < length c.loop-rest.rest.now = search rules in
-    white_turn (vec_items c.loop-rest.octets) c.loop-rest.rest.now some (sym c.if-is-white.ensures) ∙ c.loop-rest.invariant
+    white_turn (vec_items c.loop-rest.octets) c.loop-rest.rest.now some (sym c.if-is_white.ensures) ∙ c.loop-rest.invariant
 
-pub returns-in-default-pair : goal.returns-in-default-pair
-returns-in-default-pair c =
+pub returns-in_default-pair : goal.returns-in_default-pair
+returns-in_default-pair c =
     let some : 0 < length c.loop-rest.rest.now = search rules in
     let more : 0 < length (tail c.loop-rest.rest.now) = search rules in
-    sym c.loop-rest.invariant ∙ bad_turn (vec_items c.loop-rest.octets) c.loop-rest.rest.now some more (sym c.if-is-white.ensures) (sym c.in-default-pair.ensures)
+    sym c.loop-rest.invariant ∙ bad_turn (vec_items c.loop-rest.octets) c.loop-rest.rest.now some more (sym c.if-is_white.ensures) (sym c.in_default-pair.ensures)
 
 pub loop-rest-preserved : goal.loop-rest-preserved
 loop-rest-preserved c =
     let some : 0 < length c.loop-rest.rest.now = search rules in
     let more : 0 < length (tail c.loop-rest.rest.now) = search rules in
-    ap (λ l. behind l (spelled (tail (tail c.loop-rest.rest.now)))) c.in-ok-push.ensures.items
-    ∙ pair_turn (vec_items c.loop-rest.octets) c.loop-rest.rest.now some more (sym c.if-is-white.ensures) c.in-Some.octet (sym c.in-Some.ensures)
+    ap (λ l. behind l (spelled (tail (tail c.loop-rest.rest.now)))) c.in_ok-push.ensures.items
+    ∙ pair_turn (vec_items c.loop-rest.octets) c.loop-rest.rest.now some more (sym c.if-is_white.ensures) c.in-Some.octet (sym c.in-Some.ensures)
     ∙ c.loop-rest.invariant
 
-pub returns-then-is-empty : goal.returns-then-is-empty
-returns-then-is-empty c =
-    let none : vec_len c.loop-rest.octets ≡ 0 = eqb-true _ 0 (sym c.if-is-empty.ensures) in
+pub returns-then-is_empty : goal.returns-then-is_empty
+returns-then-is_empty c =
+    let none : vec_len c.loop-rest.octets ≡ 0 = eqb-true _ 0 (sym c.if-is_empty.ensures) in
     let end : length c.loop-rest.rest.now ≡ 0 = search rules in
     sym c.loop-rest.invariant ∙ blank (vec_items c.loop-rest.octets) c.loop-rest.rest.now (omega (arith, c.loop-rest.octets.ok.0)) end

@@ -5,6 +5,6 @@ pub returns : goal.returns
 returns g c =
     let line = g.L.Line in
     let before = c.args.line.now in
-    let after = c.tell-or-collect.new.line in
-    let done = c.tell-or-collect.ensures in
-    record { done = done; law = goes_on c.args.act c.tell-or-collect.result (line.standing before) (line.standing after) (line.room before) (line.room after) done }
+    let after = c.tell_or_collect.new.line in
+    let done = c.tell_or_collect.ensures in
+    record { done = done; law = goes_on c.args.act c.tell_or_collect.result (line.standing before) (line.standing after) (line.room before) (line.room after) done }

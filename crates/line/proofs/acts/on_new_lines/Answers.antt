@@ -23,9 +23,9 @@ pub loop-place-preserved : goal.loop-place-preserved
 loop-place-preserved c =
     let acts = c.args.acts.now in
     let i = c.loop-place.place in
-    let more : take i acts ++ (c.act-at.result ∷ []) ≡ take (i + 1) acts =
-    ap (λ a. take i acts ++ (a ∷ [])) c.act-at.ensures ∙ sym (take_more acts i Collect c.loop-place-test.true) in
-    subst (λ (xs : List Act). Both xs c.carry-out-on-both.new.lines) more (c.carry-out-on-both.ensures (take i acts) c.loop-place.invariant)
+    let more : take i acts ++ (c.act_at.result ∷ []) ≡ take (i + 1) acts =
+    ap (λ a. take i acts ++ (a ∷ [])) c.act_at.ensures ∙ sym (take_more acts i Collect c.loop-place-test.true) in
+    subst (λ (xs : List Act). Both xs c.carry_out_on_both.new.lines) more (c.carry_out_on_both.ensures (take i acts) c.loop-place.invariant)
 
 pub returns : goal.returns
 returns c =

@@ -8,11 +8,11 @@ use Rattle.line.proofs.telling.are_legs.Goals as goal
 
 pub loop-number-preserved : goal.loop-number-preserved
 loop-number-preserved c =
-    All-more Leg c.args.numbers.now c.loop-number.number-index 0 c.loop-number-test.true c.loop-number.invariant (c.if-not-is-leg.ensures.0 refl)
+    All-more Leg c.args.numbers.now c.loop-number.number-index 0 c.loop-number-test.true c.loop-number.invariant (c.if-not-is_leg.ensures.0 refl)
 
-pub returns-then-not-is-leg : goal.returns-then-not-is-leg
-returns-then-not-is-leg c =
-    (λ e. absurd (false≢true e), λ all. c.if-not-is-leg.ensures.1 (All-get_or Leg c.args.numbers.now c.loop-number.number-index 0 c.loop-number-test.true all))
+pub returns-then-not-is_leg : goal.returns-then-not-is_leg
+returns-then-not-is_leg c =
+    (λ e. absurd (false≢true e), λ all. c.if-not-is_leg.ensures.1 (All-get_or Leg c.args.numbers.now c.loop-number.number-index 0 c.loop-number-test.true all))
 
 pub returns : goal.returns
 returns c =

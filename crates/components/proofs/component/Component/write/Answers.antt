@@ -7,9 +7,9 @@ use Rattle.components.proofs.ReadBack.{readable_from, readable_few, readable_sou
 use Rattle.components.proofs.Putting.{head, put_more, assembled}
 use Rattle.components.proofs.component.Component.write.Goals as goal
 
-pub returns-in-default : goal.returns-in-default
-returns-in-default c =
-    let told = c.in-default.ensures in
+pub returns-in_default : goal.returns-in_default
+returns-in_default c =
+    let told = c.in_default.ensures in
     record { written = (λ reads. told.laid (readable_sound (said c.args.self.now) told.sized reads), search rules); sized = told.sized }
 
 pub returns-then-contents-gt127 : goal.returns-then-contents-gt127

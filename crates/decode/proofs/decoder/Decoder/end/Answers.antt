@@ -6,7 +6,7 @@ use Rattle.decode.proofs.decoder.Decoder.end.Goals as goal
 
 pub returns : goal.returns
 returns c =
-    let told = reworded (ap line_answer c.as-slice.ensures.value) c.in-ok-answer.ensures in
+    let told = reworded (ap line_answer c.as_slice.ensures.value) c.in_ok-answer.ensures in
     record {
       kept = c.clear.ensures.items;
       answered = told;

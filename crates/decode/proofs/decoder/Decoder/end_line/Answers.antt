@@ -6,9 +6,9 @@ use Rattle.decode.proofs.Appending.{reworded}
 use Rattle.decode.proofs.Cutting.{always}
 use Rattle.decode.proofs.decoder.Decoder.end_line.Goals as goal
 
-pub returns-then-is-empty : goal.returns-then-is-empty
-returns-then-is-empty c =
-    let none : vec_len c.args.self.now.line ≡ 0 = eqb-true _ 0 (sym c.if-is-empty.ensures) in
+pub returns-then-is_empty : goal.returns-then-is_empty
+returns-then-is_empty c =
+    let none : vec_len c.args.self.now.line ≡ 0 = eqb-true _ 0 (sym c.if-is_empty.ensures) in
     let nil : vec_items c.args.self.now.line ≡ [] = nil_from_length _ (omega (arith, c.args.self.now.line.ok.0)) in
     record {
       kept = always c.answer.result nil;

@@ -10,23 +10,23 @@ loop-rest-init c = (search rules, record { goes = refl; tells = refl })
 
 pub returns-then-end-rest : goal.returns-then-end-rest
 returns-then-end-rest c =
-    let whole : Unbroken c.loop-rest.rest.now (length c.loop-rest.rest.now) = subst (Unbroken c.loop-rest.rest.now) c.if-end-rest.true c.line-length-end.ensures.before in
+    let whole : Unbroken c.loop-rest.rest.now (length c.loop-rest.rest.now) = subst (Unbroken c.loop-rest.rest.now) c.if-end-rest.true c.line_length-end.ensures.before in
     let done = last_turn c.loop-rest.invariant.1 whole in
-    let kept = appended c.extend-from-slice.result (vec_items c.loop-rest.self.line) _ c.loop-rest.rest.now _ c.extend-from-slice.ensures.items done.0 in
+    let kept = appended c.extend_from_slice.result (vec_items c.loop-rest.self.line) _ c.loop-rest.rest.now _ c.extend_from_slice.ensures.items done.0 in
     record {
       kept = kept;
-      answered = record { added = always c.extend-from-slice.result done.1 };
-      run = made_from c.extend-from-slice.result (λ ek ea. on c.args.block.now ek ea) kept (always c.extend-from-slice.result done.1);
+      answered = record { added = always c.extend_from_slice.result done.1 };
+      run = made_from c.extend_from_slice.result (λ ek ea. on c.args.block.now ek ea) kept (always c.extend_from_slice.result done.1);
     }
 
 pub loop-rest-preserved : goal.loop-rest-preserved
 loop-rest-preserved c =
-    let inside : c.line-length-end.result < length c.loop-rest.rest.now = search rules in (
+    let inside : c.line_length-end.result < length c.loop-rest.rest.now = search rules in (
       search rules,
-      next_turn c.loop-rest.invariant.1 c.line-length-end.result _ _ _ _ inside c.line-length-end.ensures.before
-          (c.line-length-end.ensures.found inside)
-          (ap (λ k. take k c.loop-rest.rest.now) (sub-zero c.line-length-end.result))
-          (take_rest c.loop-rest.rest.now (c.line-length-end.result + 1))
-          c.in-ok-end-line.ensures.kept
-          c.in-ok-end-line.ensures.answered.added,
+      next_turn c.loop-rest.invariant.1 c.line_length-end.result _ _ _ _ inside c.line_length-end.ensures.before
+          (c.line_length-end.ensures.found inside)
+          (ap (λ k. take k c.loop-rest.rest.now) (sub-zero c.line_length-end.result))
+          (take_rest c.loop-rest.rest.now (c.line_length-end.result + 1))
+          c.in_ok-end_line.ensures.kept
+          c.in_ok-end_line.ensures.answered.added,
     )

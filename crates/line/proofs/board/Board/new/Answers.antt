@@ -13,4 +13,4 @@ fresh-everywhere k =
     (cases_lt k 65)
 
 pub returns : goal.returns
-returns c = λ k. ap (λ (ss : List Standing). get_or ss k fresh) c.new-standings.ensures ∙ fresh-everywhere k
+returns c = λ k. ap (λ (ss : List Standing). get_or ss k fresh) c.new_standings.ensures ∙ fresh-everywhere k

@@ -10,8 +10,8 @@ pub returns : goal.returns
 returns c =
     let o = c.args.self.now in
     let o' = c.push.new.self in
-    let board = c.in-ok-tell.ensures in
-    let message = c.notify-message.result in
+    let board = c.in_ok-tell.ensures in
+    let message = c.notify_message.result in
     let place : o.count < length o.messages = search rules in
     let pushed : waiting o' ≡ waiting o ++ (message ∷ []) =
     simp (c.push.ensures.messages, c.push.ensures.count) (take_more_set o.messages o.count message place) in
@@ -25,5 +25,5 @@ returns c =
         falls = omega arith;
         by_one = omega arith;
       };
-      queued = pushed ∙ ap (λ m. waiting o ++ (m ∷ [])) c.notify-message.ensures;
+      queued = pushed ∙ ap (λ m. waiting o ++ (m ∷ [])) c.notify_message.ensures;
     }
