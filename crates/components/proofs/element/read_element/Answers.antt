@@ -34,4 +34,4 @@ returns c =
     let found = c.in_ok-component.ensures in
     let xs = c.args.octets.now in
     let reads = c.read_component.ensures ∙ sym (reading_typed xs c.in_ok-component.component.now found.0 found.1 (sym c.if-not-has_component_tag.ensures) (ap bad_component found.1 ∙ c.in_ok-check_component.ensures)) in
-    record { reads = reads; rewrites = made_writes xs c.read_component.result (octets_of_slice xs c.type-inv.octets) reads }
+    record { reads = reads; rewrites = made_writes xs c.read_component.result (octets_of_slice xs c.type_inv.octets) reads }

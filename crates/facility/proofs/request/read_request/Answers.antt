@@ -19,6 +19,6 @@ returns c =
     let reads = c.request_in.ensures.asks ∙ ap (λ r. and_then r (requested (length xs))) c.in_ok-component.ensures.reads in
     record {
       reads = reads;
-      only = request_only xs c.request_in.result (octets_of_slice xs c.type-inv.octets) reads c.request_in.ensures.sized;
+      only = request_only xs c.request_in.result (octets_of_slice xs c.type_inv.octets) reads c.request_in.ensures.sized;
       every = λ a lawful is. reads ∙ request_every xs a lawful is;
     }
