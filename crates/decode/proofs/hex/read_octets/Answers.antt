@@ -1,8 +1,11 @@
 use Rattle.std.proofs.Common.{◌≡◌, ◌<◌, length, vec_items, vec_len, sym, ap, ◌∙◌, arith, rules}
 use Rattle.std.proofs.lemmas.Bool.{eqb-true}
 use Rattle.decode.specs.Spelling.{spelled}
-use Rattle.decode.proofs.Reading.{behind, tail, white_turn, pair_turn, bad_turn, blank}
+use Rattle.decode.proofs.Reading.{behind, tail, white_turn, pair_turn, bad_turn, blank, behind_none}
 use Rattle.decode.proofs.hex.read_octets.Goals as goal
+
+pub loop-rest-init : goal.loop-rest-init
+loop-rest-init c = ap (λ l. behind l (spelled c.args.line.now)) c.clear.ensures.items ∙ behind_none (spelled c.args.line.now)
 
 pub loop-rest-preserved-then-is_white : goal.loop-rest-preserved-then-is_white
 loop-rest-preserved-then-is_white c =
