@@ -1,8 +1,7 @@
 -- A whole value in front of other octets, and a value at another place. Assumes nothing.
-use Rattle.std.proofs.Common.{◌≡◌, ℕ, zero, suc, ◌+◌, ◌<◌, ◌≤◌, Bool, true, false, cond, List, [], ◌∷◌, ◌++◌, length, get_or, take, drop, Some, None, Option, sym, refl, ap, ◌∙◌, ⊎_elim, append-nil, arith, length-append}
+use Rattle.std.proofs.Common.{◌≡◌, ℕ, zero, suc, ◌+◌, ◌<◌, Bool, true, false, cond, List, [], ◌∷◌, ◌++◌, length, get_or, Some, None, Option, sym, refl, ap, ◌∙◌, append-nil, arith, length-append}
 use Rattle.std.proofs.lemmas.List.{take_at, drop_at, get_or_append_left}
-use Rattle.std.proofs.lemmas.Bool.{cond-true, cond-false, cases_Bool}
-use Rattle.ber.specs.Structure.{or_else, first_bad, bad_value, bad_list, Part, values}
+use Rattle.ber.specs.Structure.{or_else, first_bad, bad_value, bad_list, values}
 use Rattle.ber.specs.Value.{begins_with_value, is_short_tag, is_constructed, tag, size, front, behind, contents}
 use Rattle.ber.proofs.Nesting.{whole_parts, whole_from, list_step, values_step, empty_list, no_values}
 use Rattle.ber.proofs.Taking.{both_none, front_same}

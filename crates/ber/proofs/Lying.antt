@@ -4,7 +4,7 @@ use Rattle.std.specs.List.{flat_map, AllByRecursion as All}
 use Rattle.std.proofs.lemmas.List.{take-append-drop}
 use Rattle.ber.specs.Structure.{Part, bad_value, bad_list, values}
 use Rattle.ber.specs.Value.{size, front, behind}
-use Rattle.ber.proofs.Nesting.{no_values, values_step, whole_parts, front_length}
+use Rattle.ber.proofs.Nesting.{no_values, values_step, front_length}
 use Rattle.ber.proofs.Taking.{well_parts, well_whole, front_same}
 
 -- values from a place on, each well structured for n levels

@@ -1,8 +1,8 @@
 -- What well-structured octets give when their values are taken one by one. Assumes nothing.
-use Rattle.std.proofs.Common.{◌≡◌, ℕ, zero, suc, ◌+◌, ◌-◌, ◌<◌, ◌≤◌, true, false, cond, eqb, List, [], ◌∷◌, length, get_or, drop, Some, None, Option, sym, refl, ap, ◌∙◌, ⊎_elim, arith, length-drop}
+use Rattle.std.proofs.Common.{◌≡◌, ℕ, zero, suc, ◌+◌, ◌-◌, ◌<◌, ◌≤◌, true, false, cond, eqb, List, [], ◌∷◌, length, drop, Some, None, Option, sym, refl, ap, ◌∙◌, ⊎_elim, arith, length-drop}
 use Rattle.std.proofs.lemmas.List.{take_all, get_or-take}
 use Rattle.std.proofs.lemmas.Bool.{cond-true, cases_Bool, both_ways, and_parts, eqb-true}
-use Rattle.ber.specs.Structure.{or_else, bad_value, bad_list, Part, values}
+use Rattle.ber.specs.Structure.{or_else, bad_value, bad_list, values}
 use Rattle.ber.specs.Value.{begins_with_value, is_short_tag, is_constructed, is_tagged, tag, size, front, behind, contents}
 use Rattle.ber.proofs.Nesting.{list_step, values_step, value_step, value_cut, value_nested, no_level, whole_parts, whole_from, front_length, front_tag}
 

@@ -1,7 +1,7 @@
 -- Which values are well structured, and else which is the first that is not, in reading order: a value comes before its
 -- contents, and its contents before its neighbour. A place counts octets from the start of the element. Assumes nothing.
 use Rattle.std.specs.Prelude.{ℕ, zero, suc, ◌+◌, cond, List, [], ◌∷◌, Some, None, Option, slice_index}
-use Rattle.ber.specs.Value.{begins_with_value, is_constructed, tag, size, front, contents}
+use Rattle.ber.specs.Value.{begins_with_value, is_constructed, tag, front, contents}
 
 -- the first place found, or else what comes after
 abbrev pub or_else : Option ℕ → Option ℕ → Option ℕ

@@ -2,6 +2,7 @@
 //
 // `read_value` takes one value from the front, `check_structure` looks at a value and everything nested in it, and
 // `read_integer` reads an INTEGER. The rules are in `specs/`.
+#![tactic(auto)]
 
 mod integer;
 mod value;

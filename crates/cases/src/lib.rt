@@ -1,19 +1,19 @@
 // Worked examples: some proved by computing the rules, and tests of what is refused.
+#![tactic(auto)]
+
 ghost use Rattle.cases.specs.Examples.{DropOfParty5, Operation46};
-ghost use Rattle.cases.specs.Telling.{OneClears};
 
 mod copying;
 mod telling;
 mod writing;
 
 pub use copying::copy_element;
-pub use telling::first_message;
+pub use telling::{first_message, worked_line};
 
-// The octets of a drop, and the same with an operation that is no request; what is heard where one party clears.
+// The octets of a drop, and the same with an operation that is no request.
 pub fn worked_examples() -> u8
     ensures drop_of_party_5 { DropOfParty5 }
     ensures operation_46 { Operation46 }
-    ensures one_clears { OneClears }
 {
     0
 }

@@ -1,5 +1,5 @@
 // The line to the remote users: what waits after a telling, and tests of both kinds of line.
-ghost use Rattle.cases.specs.Telling.{FirstWaits};
+ghost use Rattle.cases.specs.Telling.{FirstWaits, OneClears};
 
 use line::{Line, Notice, Outbox};
 
@@ -11,6 +11,13 @@ pub fn first_message(leg: u8, notice: Notice) -> Option<[u8; 5]>
     outbox.tell(leg, notice).ok()?;
     let message = outbox.message(0)?;
     Some(*message.octets)
+}
+
+// What is heard where one party clears.
+pub fn worked_line() -> u8
+    ensures { OneClears }
+{
+    0
 }
 
 #[cfg(test)]

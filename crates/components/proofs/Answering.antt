@@ -1,20 +1,20 @@
 -- Results and rejects read back from their octets. Assumes nothing.
-use Rattle.std.proofs.Common.{◌≡◌, ℕ, ◌+◌, ◌<◌, ◌≤◌, Bool, true, false, cond, List, [], ◌∷◌, ◌++◌, length, drop, ℤ, Some, None, Ok, Err, Option, Result, sym, refl, ap, ◌∙◌, append-nil, arith, lit<, length-append, w16, SFits}
+use Rattle.std.proofs.Common.{◌≡◌, ℕ, ◌+◌, ◌≤◌, List, [], ◌∷◌, ◌++◌, length, drop, ℤ, Some, None, Ok, Option, Result, sym, refl, ap, ◌∙◌, append-nil, arith, lit<, length-append, w16, SFits}
 use Rattle.std.specs.Option.{option_map}
 use Rattle.std.proofs.lemmas.List.{take_all}
 use Rattle.std.proofs.lemmas.Bool.{cond-true, and_from, eq-eqb}
 use Rattle.components.specs.declared.component.Problem.{Problem}
 use Rattle.components.specs.declared.component.Problem.TheVariants as problem
 use Rattle.components.specs.declared.fault.Fault.{Fault}
-use Rattle.components.specs.Component.{Said, result, reject}
+use Rattle.components.specs.Component.{result, reject}
 use Rattle.ber.specs.Integer.{integer_octets}
 use Rattle.ber.specs.Structure.{or_else, bad_value, bad_list, Part, values}
 use Rattle.components.specs.Typed.{and_then, taken, first, nothing_more, at_most_one, any, an_integer, integer_or_null, as_problem, a_problem, integer_and_value, an_answer, a_result, a_reject}
-use Rattle.ber.specs.Value.{is_tagged, tagged}
+use Rattle.ber.specs.Value.{tagged}
 use Rattle.components.specs.Writing.{id_octets, answer_octets, problem_octets, moved, answer_moved, Fit, Each}
 use Rattle.ber.proofs.Appending.{Alone, joint_values, joint_list, alone_values, alone_list}
 use Rattle.components.proofs.Encoding.{tagged_whole}
-use Rattle.components.proofs.Inverting.{then_parts, one_parts}
+use Rattle.components.proofs.Inverting.{then_parts}
 use Rattle.ber.proofs.Nesting.{value_nested, value_plain, no_values, empty_list}
 use Rattle.ber.proofs.Numbers.{integer_reads}
 use Rattle.components.proofs.Returning.{integer_alone, integer_well, one_values, one_list, fit_reads, reads_fit}

@@ -1,12 +1,12 @@
 -- What reading answers for the octets of a component, by the values that it holds. Assumes nothing.
-use Rattle.std.proofs.Common.{◌≡◌, ℕ, ◌+◌, ◌<◌, ◌≤◌, Bool, true, false, cond, List, [], ◌∷◌, ◌++◌, length, drop, ℤ, Some, None, Ok, Err, Option, Result, sym, refl, ap, ◌∙◌, arith, lit<}
+use Rattle.std.proofs.Common.{◌≡◌, ℕ, ◌+◌, ◌≤◌, true, List, length, drop, Some, None, Option, refl, ap, ◌∙◌, arith, lit<}
 use Rattle.std.proofs.lemmas.List.{take_all}
-use Rattle.std.proofs.lemmas.Bool.{cond-true, cond-false, eq-eqb}
+use Rattle.std.proofs.lemmas.Bool.{cond-true, eq-eqb}
 use Rattle.std.proofs.lemmas.Bool.Decides.{nat_tests}
 use Rattle.components.specs.Component.{Said, invoke, result, error, reject}
-use Rattle.components.specs.Reading.{is_component_tag, bad_component, by_tag, structured, head_fault, unless, reading_component, reading}
+use Rattle.components.specs.Reading.{is_component_tag, bad_component, by_tag, structured, head_fault, reading_component, reading}
 use Rattle.ber.specs.Structure.{or_else, bad_value, bad_list, values}
-use Rattle.ber.specs.Value.{begins_with_value, is_short_tag, is_constructed, tag, size, tagged}
+use Rattle.ber.specs.Value.{begins_with_value, is_short_tag, is_constructed, tagged}
 use Rattle.components.specs.Writing.{encoded, component_tag, component_contents}
 use Rattle.components.proofs.Framing.{component_constructed, behind_head}
 use Rattle.ber.proofs.Nesting.{whole_from, value_nested}

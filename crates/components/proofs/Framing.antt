@@ -1,5 +1,5 @@
 -- When a whole component is well structured. Assumes nothing.
-use Rattle.std.proofs.Common.{◌≡◌, ℕ, ◌+◌, ◌≤◌, true, false, cond, eqb, leb, List, length, drop, Some, None, Err, Option, sym, refl, ap, ◌∙◌, ⊎_elim, arith, lit<}
+use Rattle.std.proofs.Common.{◌≡◌, ℕ, ◌+◌, ◌≤◌, true, false, cond, eqb, leb, List, length, drop, Some, None, Err, sym, ap, ◌∙◌, ⊎_elim, arith, lit<}
 use Rattle.std.proofs.lemmas.List.{take_all}
 use Rattle.std.proofs.lemmas.Bool.{cond-true, cond-false, cases_Bool, cases_eq, eq-eqb, ne_eqb, eqb-true, leb-true, and_parts}
 use Rattle.components.specs.declared.fault.Cause.TheVariants.{Tag, Structure}

@@ -1,5 +1,5 @@
 -- What a successful reading of values says of the values. Assumes nothing.
-use Rattle.std.proofs.Common.{◌≡◌, ℕ, ◌⊎◌, List, [], ◌∷◌, Some, None, Ok, Err, Option, Result, sym, refl, ap, ◌∙◌, inl, inr, arith}
+use Rattle.std.proofs.Common.{◌≡◌, ℕ, ◌⊎◌, List, [], ◌∷◌, Some, None, Ok, Err, Option, Result, refl, ap, ◌∙◌, inl, inr, arith}
 use Rattle.components.specs.declared.fault.Fault.{Fault}
 use Rattle.ber.specs.Structure.{Part}
 use Rattle.components.specs.Typed.{and_then, taken, first, nothing_more, at_most_one}

@@ -9,7 +9,7 @@ use Rattle.components.specs.declared.write.Refusal.TheVariants.{Unreadable, Shor
 use Rattle.components.specs.Component.{Said, invoke, result, error, reject}
 use Rattle.components.specs.Layout.{held, Lays}
 use Rattle.components.specs.Reading.{by_tag, structured}
-use Rattle.ber.specs.Structure.{Part, bad_list, values}
+use Rattle.ber.specs.Structure.{bad_list, values}
 use Rattle.components.specs.Writing.{component_tag, component_contents, encoded, placed, id_octets, problem_octets, Readable, One, Sound, Sized, Written}
 use Rattle.components.proofs.Answering.{result_reads, result_fit, reject_reads}
 use Rattle.components.proofs.Encoding.{reading_encoded}

@@ -1,19 +1,19 @@
 -- An element that was read writes back. Assumes nothing.
-use Rattle.std.proofs.Common.{◌≡◌, ℕ, ◌+◌, ◌<◌, ◌≤◌, true, false, cond, not, ◌||◌, eqb, ltb, List, [], ◌∷◌, length, get_or, drop, IfOk, Some, None, Ok, Err, Option, Result, sym, refl, ap, ◌∙◌, subst, ⊎_elim, arith}
+use Rattle.std.proofs.Common.{◌≡◌, ℕ, ◌+◌, ◌≤◌, true, List, [], ◌∷◌, length, get_or, drop, IfOk, Some, None, Ok, Err, Option, Result, sym, refl, ap, ◌∙◌, subst, ⊎_elim, arith}
 use Rattle.std.proofs.ByRecursion.{All-drop}
 use Rattle.std.proofs.lemmas.Bool.{cond-true, cond-false, cases_Bool, and_from, eq-eqb}
 use Rattle.std.proofs.lemmas.Bool.Decides.{nat_tests}
-use Rattle.components.specs.declared.fault.Cause.TheVariants.{Tag, Structure}
+use Rattle.components.specs.declared.fault.Cause.TheVariants.{Tag}
 use Rattle.components.specs.declared.fault.Fault.{Fault}
 use Rattle.components.specs.declared.component.Component.{Component}
 use Rattle.components.specs.Component.{Said, said}
 use Rattle.components.specs.Faults.{at}
 use Rattle.components.specs.Reading.{is_component_tag, bad_component, by_tag, structured, head_fault, unless, reading_component, reading, read_as}
 use Rattle.ber.specs.Structure.{values}
-use Rattle.ber.specs.Value.{is_tagged, tagged, tag, size}
-use Rattle.components.specs.Writing.{encoded, placed, component_tag, component_contents}
+use Rattle.ber.specs.Value.{tagged, tag, size}
+use Rattle.components.specs.Writing.{encoded, placed, component_contents}
 use Rattle.components.proofs.Framing.{component_parts, component_contents_well}
-use Rattle.ber.proofs.Lying.{together, values_lie}
+use Rattle.ber.proofs.Lying.{values_lie}
 use Rattle.ber.proofs.Numbers.{tagged_is}
 use Rattle.components.proofs.Rewriting.{Octets, tag_rewrites}
 

@@ -1,15 +1,12 @@
 -- A component that is sound and not too long reads back from its octets, and no other does. Assumes nothing.
-use Rattle.std.proofs.Common.{◌≡◌, ℕ, ◌+◌, ◌/◌, ◌%◌, ◌<◌, ◌≤◌, Bool, true, false, cond, List, [], ◌∷◌, ◌++◌, length, drop, ℤ, Some, None, Ok, Err, Option, Result, sym, refl, ap, ◌∙◌, subst, ⊎_elim, add_assoc, arith, length-append, w8, w16, SFits, of_z}
+use Rattle.std.proofs.Common.{◌≡◌, ℕ, ◌+◌, ◌/◌, ◌%◌, ◌<◌, ◌≤◌, cond, List, [], ◌∷◌, ◌++◌, length, ℤ, Some, None, Ok, Option, sym, refl, ap, ◌∙◌, ⊎_elim, add_assoc, arith, w8, w16, SFits, of_z}
 use Rattle.std.specs.Option.{option_map}
 use Rattle.std.proofs.lemmas.Bool.{cond_both}
-use Rattle.components.specs.declared.component.Problem.{Problem}
-use Rattle.components.specs.declared.component.Problem.TheVariants as problem
-use Rattle.components.specs.declared.fault.Fault.{Fault}
-use Rattle.components.specs.Component.{Said, invoke, result, error, reject}
-use Rattle.ber.specs.Integer.{is_short, integer_octets, as_integer}
+use Rattle.components.specs.Component.{Said}
+use Rattle.ber.specs.Integer.{is_short, integer_octets}
 use Rattle.ber.specs.Structure.{or_else, bad_value, bad_list, Part, values}
 use Rattle.components.specs.Typed.{and_then, taken, first, at_most_one, any, an_integer}
-use Rattle.ber.specs.Value.{tagged, size, front}
+use Rattle.ber.specs.Value.{front}
 use Rattle.components.specs.Writing.{optional_octets, moved, One, Fit}
 use Rattle.ber.proofs.Appending.{Alone, joint_values, joint_list, alone_values, alone_list, value_moves}
 use Rattle.components.proofs.Encoding.{tagged_whole}

@@ -1,15 +1,12 @@
 -- What a component says, apart from where its octets lie in memory. Assumes nothing.
-use Rattle.std.specs.Prelude.{ℕ, ◌+◌, List, [], ◌∷◌, ◌++◌, length, ℤ, Some, None, Option}
+use Rattle.std.specs.Prelude.{ℤ, Option}
 use Rattle.std.specs.Option.{option_map}
 use Rattle.components.specs.declared.component.Parameter.{Parameter}
 use Rattle.components.specs.declared.component.Answer.{Answer}
 use Rattle.components.specs.declared.component.Problem.{Problem}
-use Rattle.components.specs.declared.component.Problem.TheVariants as problem
 use Rattle.components.specs.declared.component.Component.{Component}
 use Rattle.components.specs.declared.component.Component.TheVariants as component
-use Rattle.ber.specs.Integer.{integer_octets}
 use Rattle.ber.specs.Structure.{Part}
-use Rattle.ber.specs.Value.{tagged}
 
 -- a component by what it says: an invoke with its argument, a result with the operation and the value it answers,
 -- an error with its parameter, a reject with an id or NULL

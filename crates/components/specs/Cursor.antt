@@ -1,5 +1,5 @@
 -- What is left of a component's values while they are taken one by one. Assumes nothing.
-use Rattle.std.specs.Prelude.{◌≡◌, ℕ, ◌+◌, ◌≤◌, List, [], length, None, Ok, Err, Option, Result}
+use Rattle.std.specs.Prelude.{◌≡◌, ℕ, ◌+◌, ◌≤◌, List, length, None, Ok, Err, Option, Result}
 use Rattle.std.specs.Option.{option_map}
 use Rattle.components.specs.declared.component.Parameter.{Parameter}
 use Rattle.components.specs.declared.fault.Fault.{Fault}

@@ -1,5 +1,5 @@
 -- Reading an element: lower causes go first, over the whole element. Assumes nothing.
-use Rattle.std.specs.Prelude.{ℕ, ◌+◌, Bool, cond, not, ◌&&◌, ◌||◌, List, ◌∷◌, length, drop, Some, None, Ok, Err, Option, Result, ◌==◌, nat_le, nat_lt, slice_index}
+use Rattle.std.specs.Prelude.{ℕ, ◌+◌, Bool, cond, not, ◌&&◌, ◌||◌, List, length, drop, Some, None, Ok, Err, Option, Result, ◌==◌, nat_le, nat_lt, slice_index}
 use Rattle.components.specs.declared.component.Component.{Component}
 use Rattle.components.specs.declared.fault.Cause.TheVariants.{Count, Identifier, Length, Profile, Tag, Structure}
 use Rattle.components.specs.declared.fault.Fault.{Fault}

@@ -2,6 +2,7 @@
 //
 // `read_element` answers the component or the element's first fault, `Component::write` puts a component into lent
 // memory, and `Fault::reply` is the message that answers a fault. The rules are in `specs/`.
+#![tactic(auto)]
 
 mod component;
 mod element;

@@ -1,4 +1,6 @@
 // Answers each line of hex pairs, a Facility element, with what the element says, or with its fault.
+#![tactic(auto)]
+
 mod account;
 mod decoder;
 mod figures;

@@ -1,5 +1,5 @@
 -- Each request is made by one element, and by no other. Assumes nothing.
-use Rattle.std.proofs.Common.{◌≡◌, ℕ, ◌+◌, ◌<◌, ◌≤◌, Bool, true, false, cond, ◌&&◌, eqb, leb, List, [], ◌∷◌, ◌++◌, length, get_or, take, drop, ℤ, pos, negsuc, IfOk, Some, None, Ok, Err, Option, Result, sym, refl, ap, ◌∙◌, subst, ⊎_elim, arith, lit<, length-append, w16, SFits}
+use Rattle.std.proofs.Common.{◌≡◌, ℕ, ◌+◌, ◌≤◌, ◌&&◌, eqb, leb, List, ◌∷◌, ◌++◌, length, get_or, take, drop, ℤ, pos, negsuc, IfOk, Some, None, Ok, Err, Option, Result, sym, refl, ap, ◌∙◌, subst, ⊎_elim, arith, lit<, length-append, w16, SFits}
 use Rattle.std.specs.Option.{option_map}
 use Rattle.std.proofs.lemmas.List.{take-append-drop}
 use Rattle.std.proofs.lemmas.Bool.{cond-true, cond-false, cases_Bool, and_parts, and_from, leb-true, le-leb}
@@ -15,9 +15,9 @@ use Rattle.ber.specs.Integer.{integer_octets}
 use Rattle.components.specs.Reading.{reading}
 use Rattle.facility.specs.Requests.{number_octets, a_number, both, two_numbers, operation_of, asks, octets_in, asked, by_operation, requested, requesting, request_code, request_argument, request_octets, InRange, Lawful}
 use Rattle.ber.specs.Structure.{Part, first_bad, bad_value}
-use Rattle.components.specs.Typed.{and_then, code_under}
+use Rattle.components.specs.Typed.{and_then}
 use Rattle.ber.specs.Value.{is_tagged, tagged}
-use Rattle.components.specs.Writing.{optional_octets, component_contents, encoded, placed, moved, Readable, One, Fit, Each}
+use Rattle.components.specs.Writing.{optional_octets, component_contents, encoded, moved, One, Fit}
 use Rattle.components.proofs.Inverting.{then_parts}
 use Rattle.ber.proofs.Nesting.{value_plain}
 use Rattle.ber.proofs.Numbers.{tagged_is}

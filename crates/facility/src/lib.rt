@@ -2,6 +2,7 @@
 //
 // `read_request` answers the request that an element makes, or the first fault. Everything of the layers below that a
 // user of requests needs is passed on.
+#![tactic(auto)]
 
 mod request;
 

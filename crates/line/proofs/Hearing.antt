@@ -1,5 +1,5 @@
 -- The standings that tellings lead to: each leg's is what the notices told to it alone give.
-use Rattle.std.proofs.Common.{◌≡◌, ℕ, ◌+◌, ◌<◌, Bool, true, false, cond, eqb, List, [], ◌∷◌, ◌++◌, map, take, is_ok, Ok, Err, filter, Result, sym, refl, ap, ◌∙◌}
+use Rattle.std.proofs.Common.{◌≡◌, ℕ, ◌<◌, Bool, true, false, cond, eqb, List, [], ◌∷◌, ◌++◌, map, is_ok, Ok, Err, filter, Result, sym, refl, ap, ◌∙◌}
 use Rattle.std.proofs.lemmas.List.Elements.{filter-append}
 use Rattle.std.proofs.lemmas.List.{append-nil, map-append}
 use Rattle.std.proofs.lemmas.Bool.{true≢false, false≢true}
@@ -10,7 +10,7 @@ use Rattle.line.specs.declared.meaning.Refusal.TheVariants.{NoSuchLeg, NoRoom}
 use Rattle.line.specs.declared.notice.Notice.{Notice}
 use Rattle.line.specs.declared.standing.Standing.{Standing}
 use Rattle.line.specs.Acts.{Telling, notices_to, heard, Alone, CarriedOut, told, Run, new, next, GoesOn}
-use Rattle.line.specs.Meaning.{Leg, Standings, Same, Hears}
+use Rattle.line.specs.Meaning.{Standings, Same, Hears}
 use Rattle.line.specs.Notices.{fresh, after}
 use Rattle.line.proofs.OneTelling.{never_refused, hears_at}
 

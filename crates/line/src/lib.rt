@@ -3,6 +3,7 @@
 // A remote user is reached by a leg. A `Notice` changes the `Standing` of the one who hears it; a `Line` tells notices,
 // and is known to its callers only by the standing of each leg and by its room. The `Outbox` keeps the messages until they
 // are collected, the `Board` keeps standings alone. The rules are in `specs/`.
+#![tactic(auto)]
 
 mod acts;
 mod board;

@@ -5,4 +5,4 @@ use Rattle.cases.proofs.worked_examples.Goals as goal
 
 pub returns : goal.returns
 unfolding first_bad bad_value values_after values reading_component reading
-returns c = (refl, refl, record { first = refl; second = refl; third = refl })
+returns c = record { drop_of_party_5 = refl; operation_46 = refl }

@@ -1,10 +1,10 @@
-use Rattle.std.proofs.Common.{◌≡◌, ℕ, ◌+◌, ◌<◌, ◌≤◌, true, false, List, length, get_or, None, Ok, Err, Result, sym, ap, ◌∙◌, arith, rules}
+use Rattle.std.proofs.Common.{◌≡◌, ℕ, ◌+◌, ◌<◌, true, List, length, get_or, None, Ok, Err, Result, sym, ap, ◌∙◌, arith, rules}
 use Rattle.std.specs.List.{between}
 use Rattle.std.proofs.lemmas.Result.{err_from_is_err_and}
 use Rattle.ber.specs.declared.window.Window.{Window}
 use Rattle.ber.specs.Windows.{shown, ListChecked}
 use Rattle.ber.specs.Structure.{bad_value, bad_list}
-use Rattle.ber.specs.Value.{is_constructed, tag, size}
+use Rattle.ber.specs.Value.{is_constructed, tag}
 use Rattle.ber.proofs.Nesting.{empty_list, no_level, value_cut, value_plain, list_first, window_length, value_within, front_length, front_tag, nested_window, later_window}
 use Rattle.ber.proofs.window.+check_list_check_value.Goals as goal
 use Rattle.ber.proofs.window.+check_list_check_value.Goals.{check_value-then-is_constructed+in_ok-check_list, check_value-else-is_constructed}

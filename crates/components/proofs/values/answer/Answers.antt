@@ -1,4 +1,4 @@
-use Rattle.std.proofs.Common.{◌≡◌, ◌+◌, ◌-◌, length, ap, ◌∙◌, arith, length-drop}
+use Rattle.std.proofs.Common.{◌+◌, ◌-◌, length, ap, ◌∙◌, arith, length-drop}
 use Rattle.ber.specs.Structure.{bad_list}
 use Rattle.ber.proofs.Nesting.{whole_parts}
 use Rattle.ber.proofs.Taking.{sequence_well, well_whole}

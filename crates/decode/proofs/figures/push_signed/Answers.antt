@@ -1,4 +1,4 @@
-use Rattle.std.proofs.Common.{[], ◌∷◌, vec_items, decimal, sym, ap, ◌∙◌, w16}
+use Rattle.std.proofs.Common.{[], ◌∷◌, vec_items, decimal, ap, ◌∙◌, w16}
 use mir.ValLaws.{to_z-of_z}
 use Rattle.decode.proofs.Appending.{at, after_bytes, reworded, signed_below, signed_above}
 use Rattle.decode.proofs.figures.push_signed.Goals as goal

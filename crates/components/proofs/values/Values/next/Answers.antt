@@ -1,4 +1,4 @@
-use Rattle.std.proofs.Common.{◌≡◌, ◌+◌, length, sym, ap, ◌∙◌, arith}
+use Rattle.std.proofs.Common.{arith}
 use Rattle.ber.proofs.Nesting.{no_values}
 use Rattle.ber.proofs.Taking.{nothing_left, taken_size, taken_whole, taken_values, taken_well}
 use Rattle.components.proofs.values.Values.next.Goals as goal

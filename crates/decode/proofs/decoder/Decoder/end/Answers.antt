@@ -1,4 +1,4 @@
-use Rattle.std.proofs.Common.{◌++◌, vec_items, ap, ◌∙◌}
+use Rattle.std.proofs.Common.{vec_items, ap}
 use Rattle.decode.specs.Lines.{line_answer}
 use Rattle.decode.proofs.Appending.{reworded}
 use Rattle.decode.proofs.Standing.{done}
