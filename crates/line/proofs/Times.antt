@@ -35,11 +35,11 @@ times_unlisted (leg ∷ legs) k none =
 pub told_once : (legs : List ℕ) (notice : Notice) (s s' : Standings) → ((k : ℕ) → s' k ≡ repeated (times k legs) notice (s k)) → Distinct legs → Once legs notice s s'
 told_once legs notice s s' heard distinct = record {
   listed = λ k has.
-      let some = times_listed legs k has.0 has.1 (has.2 0) in
+      let some = times_listed legs k has.0 has.1 (sym (get_or_default legs has.0 k 0 has.1) ∙ has.2) in
       let few = distinct k in
       let one : times k legs ≡ 1 = omega arith in
       heard k ∙ ap (λ n. repeated n notice (s k)) one;
   unlisted = λ k hasn't.
-      let none : times k legs ≡ 0 = times_unlisted legs k (λ i h e. hasn't (i, h, λ d. get_or_default legs i d 0 h ∙ e)) in
+      let none : times k legs ≡ 0 = times_unlisted legs k (λ i h e. hasn't (i, h, get_or_default legs i k 0 h ∙ e)) in
       heard k ∙ ap (λ n. repeated n notice (s k)) none;
 }

@@ -1,6 +1,5 @@
 -- Telling one notice to a list of legs. Assumes nothing.
-use Rattle.std.specs.Prelude.{◌≡◌, ℕ, zero, suc, ◌+◌, ◌<◌, ◌≤◌, cond, List, [], ◌∷◌, length, Ok, Err, Result, ◌==◌}
-use Rattle.std.specs.List.{ContainsAt as Has, AllByRecursion as All}
+use Rattle.std.specs.Prelude.{◌≡◌, ℕ, zero, suc, All, Contains, ◌+◌, ◌<◌, ◌≤◌, cond, List, [], ◌∷◌, length, Ok, Err, Result, ◌==◌}
 use Rattle.line.specs.declared.meaning.Refusal.{Refusal}
 use Rattle.line.specs.declared.meaning.Refusal.TheVariants.{NoSuchLeg, NoRoom}
 use Rattle.line.specs.declared.notice.Notice.{Notice}
@@ -39,8 +38,8 @@ TellsEach legs notice s s' room room' (Err NoRoom) = All Leg legs × (room < len
 
 -- each leg in the list hears the notice exactly once, and no other leg anything
 pub record Once (legs : List ℕ) (notice : Notice) (s s' : Standings) : Type 0 where
-  pub listed : (k : ℕ) → Has legs k → s' k ≡ after notice (s k)
-  pub unlisted : (k : ℕ) → (Has legs k → ⊥) → s' k ≡ s k
+  pub listed : (k : ℕ) → Contains legs k → s' k ≡ after notice (s k)
+  pub unlisted : (k : ℕ) → (Contains legs k → ⊥) → s' k ≡ s k
 
 -- so it is where all were told and no leg stands in the list twice
 abbrev pub OnceEach : List ℕ → Notice → Standings → Standings → Result Unit Refusal → Type 0

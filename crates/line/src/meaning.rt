@@ -1,5 +1,5 @@
 // What a line to the remote users means, whatever it is made of.
-ghost use Rattle.std.specs.Prelude.{◌≡◌, ℕ, Decides};
+ghost use Rattle.std.specs.Prelude.{◌≡◌, ℕ, ◌↔◌, IsTrue};
 ghost use Rattle.line.specs.declared.standing.Standing.{Standing};
 ghost use Rattle.line.specs.Refusals.{refusal_number};
 ghost use Rattle.line.specs.Meaning.{Leg, Tells, Answers, Collects};
@@ -29,7 +29,7 @@ impl Refusal {
 
 // Whether there is such a leg.
 pub fn is_leg(leg: u8) -> bool
-    ensures { Decides result (Leg leg) }
+    ensures { IsTrue result ↔ Leg leg }
 {
     1 <= leg && leg <= 64
 }

@@ -1,6 +1,5 @@
 // One notice for a list of legs, on any line.
-ghost use Rattle.std.specs.Prelude.{◌<◌, length, Decides, slice_index};
-ghost use Rattle.std.specs.List.{AllByRecursion as All};
+ghost use Rattle.std.specs.Prelude.{◌<◌, ◌↔◌, All, IsTrue, length, slice_index};
 ghost use Rattle.line.specs.Meaning.{Leg, Tells};
 ghost use Rattle.line.specs.Telling.{TellsEach, OnceEach};
 
@@ -9,14 +8,9 @@ use crate::notice::Notice;
 
 // Whether there is a leg of each number.
 fn are_legs(numbers: &[u8]) -> bool
-    ensures { Decides result (All Leg numbers.now) }
+    ensures { IsTrue result ↔ All Leg numbers.now }
 {
-    for number in numbers {
-        if !is_leg(*number) {
-            return false;
-        }
-    }
-    true
+    numbers.iter().all(|number| is_leg(*number))
 }
 
 // Tells a notice to the leg at a place of a list.

@@ -1,7 +1,5 @@
 use Rattle.std.proofs.Common.{◌≡◌, ℕ, ◌+◌, get_or, drop, sym, refl, ap, ◌∙◌, arith}
-use Rattle.std.proofs.ByRecursion.{All-get_or}
 use Rattle.std.proofs.lemmas.List.{drop_more, drop_all}
-use Rattle.line.specs.Meaning.{Leg}
 use Rattle.line.specs.Telling.{times, repeated}
 use Rattle.line.proofs.OneTelling.{never_refused}
 use Rattle.line.proofs.Times.{first_told, told_once}
@@ -9,7 +7,7 @@ use Rattle.line.proofs.telling.tell_each.Goals as goal
 
 pub returns-in_err-tell_at : goal.returns-in_err-tell_at
 returns-in_err-tell_at g c =
-    let leg = All-get_or Leg c.args.legs.now c.loop-place.place 0 c.loop-place-test.true (c.if-not-are_legs.ensures.0 refl) in
+    let leg = c.if-not-are_legs.ensures.0 refl c.loop-place.place 0 c.loop-place-test.true in
     let line = g.L.Line in
     let before = c.loop-place.line in
     let after = c.tell_at.new.line in
