@@ -9,6 +9,7 @@ mod hex;
 use decoder::Decoder;
 use std::io;
 use std::io::{ErrorKind, Read, Stdin, Write};
+use std::process::ExitCode;
 
 const BLOCK: usize = 65536;
 
@@ -49,10 +50,12 @@ fn run(rt: &HostRuntime) -> io::Result<()> {
     write_answers(rt, &mut decoder)
 }
 
-fn main(rt: HostRuntime) -> io::Result<()> {
-    let result = run(&rt);
-    if let Err(e) = &result {
-        let _ = eprintln!(rt; "decode: {e}");
+fn main(rt: HostRuntime) -> ExitCode {
+    match run(&rt) {
+        Ok(()) => ExitCode::SUCCESS,
+        Err(e) => {
+            let _ = eprintln!(rt; "decode: {e}");
+            ExitCode::FAILURE
+        }
     }
-    result
 }
