@@ -1,5 +1,5 @@
 // Writing a component into lent memory.
-ghost use Rattle.std.specs.Prelude.{◌≡◌, ◌+◌, ◌≤◌, true, false, [], ◌∷◌, ◌++◌, length, take, drop, Decides, MatchOption, FitsSigned};
+ghost use Rattle.std.specs.Prelude.{◌≡◌, ◌+◌, ◌≤◌, true, false, [], ◌∷◌, ◌++◌, length, take, drop, ◌↔◌, IsTrue, MatchOption, FitsSigned};
 ghost use Rattle.std.specs.Int.{w16};
 ghost use Rattle.std.specs.Option.{option_map};
 ghost use Rattle.components.specs.Component.{part, answered, said};
@@ -116,7 +116,7 @@ fn short_sequence(operation: i16, count: u8) -> Short
 
 // The octets are one value, well structured, for which `levels` of nesting are left.
 fn is_one_value(octets: &[u8], levels: u8) -> bool
-    ensures { Decides result (One levels octets.now) }
+    ensures { IsTrue result ↔ One levels octets.now }
 {
     match check_structure(octets, 0, levels) {
         Ok(end) => end == octets.len(),

@@ -1,7 +1,7 @@
 -- A run goes on with a block more, and ends: how the input is cut into blocks makes no difference. Assumes nothing.
 use Rattle.std.proofs.Common.{◌≡◌, ℕ, true, false, cond, eqb, List, [], ◌∷◌, ◌++◌, vec_items, sym, refl, ap, ◌∙◌, append_assoc, append-nil}
 use Rattle.decode.specs.declared.decoder.Decoder.{Decoder}
-use Rattle.decode.specs.Lines.{ended, going_on, line_answer, line_answers, lines, Stands}
+use Rattle.decode.specs.Lines.{ended, going_on, line_answer, line_answers, input_lines, Stands}
 
 -- what goes on behind two blocks, and which lines end in them
 pub going_on_two : (kept a b : List ℕ) → going_on kept (a ++ b) ≡ going_on (going_on kept a) b
@@ -41,7 +41,7 @@ on {d} {d'} block ek ea input written s =
     }
 
 -- the last line
-pub done : {d : Decoder} (is : List ℕ) → is ≡ vec_items d.answers ++ line_answer (vec_items d.line) → (input written : List ℕ) → Stands input written d → written ++ is ≡ line_answers (lines input)
+pub done : {d : Decoder} (is : List ℕ) → is ≡ vec_items d.answers ++ line_answer (vec_items d.line) → (input written : List ℕ) → Stands input written d → written ++ is ≡ line_answers (input_lines input)
 done {d} is e input written s =
     let last = e ∙ ap (λ l. vec_items d.answers ++ l) (sym (append-nil (line_answer (vec_items d.line)))) in
     told_more written (vec_items d.answers) is (ended [] input) (vec_items d.line ∷ []) last s.tells

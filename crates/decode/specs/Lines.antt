@@ -30,8 +30,8 @@ abbrev pub line_answers : List (List ℕ) → List ℕ
 line_answers lines = flat_map line_answer lines
 
 -- the lines of a whole input; the last may lack its line feed, and is blank behind one
-abbrev pub lines : List ℕ → List (List ℕ)
-lines input = ended [] input ++ going_on [] input ∷ []
+abbrev pub input_lines : List ℕ → List (List ℕ)
+input_lines input = ended [] input ++ going_on [] input ∷ []
 
 -- where a run stands behind `input`, however it came in blocks: the line that goes on is kept, and each line that ended is
 -- answered, in what is already written or in the answers that are not

@@ -11,8 +11,8 @@ abbrev pub within : ℕ → ℕ → ℕ → Bool
 within low high b = nat_le low b && nat_le b high
 
 -- the value of a hex digit: 0 to 9, A to F, a to f
-abbrev pub digit_value : ℕ → Option ℕ
-digit_value b =
+abbrev pub hex_value : ℕ → Option ℕ
+hex_value b =
     cond (within 48 57 b) (Some (b - 48)) (cond (within 65 70 b) (Some (b - 55)) (cond (within 97 102 b) (Some (b - 87)) None))
 
 abbrev pub octet : Option ℕ → Option ℕ → Option ℕ
@@ -21,7 +21,7 @@ octet (Some high) None = None
 octet None low = None
 
 abbrev pub pair_value : ℕ → ℕ → Option ℕ
-pair_value a b = octet (digit_value a) (digit_value b)
+pair_value a b = octet (hex_value a) (hex_value b)
 
 -- one octet before others, where both are spelled
 abbrev pub before : Option ℕ → Option (List ℕ) → Option (List ℕ)

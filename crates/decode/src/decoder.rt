@@ -1,6 +1,6 @@
 // Cuts input into lines, and answers each.
 ghost use Rattle.std.specs.Prelude.{◌≡◌, ℕ, ◌<◌, ◌≤◌, List, [], ◌++◌, length, OnOk, ◌≢◌, slice_index};
-ghost use Rattle.decode.specs.Lines.{ended, going_on, line_answer, line_answers, lines, Stands};
+ghost use Rattle.decode.specs.Lines.{ended, going_on, line_answer, line_answers, input_lines, Stands};
 ghost use Rattle.decode.specs.Wording.{Adds};
 
 use crate::account::{push_account, push_word};
@@ -87,7 +87,7 @@ impl Decoder {
     pub fn end(&mut self) -> Result<(), AllocError>
         ensures kept { OnOk result (self.new.line.items ≡ []) }
         ensures answered { Adds result self.old.answers.items self.new.answers.items (line_answer self.old.line.items) }
-        ensures run { OnOk result ((input written : List ℕ) → Stands input written self.old → written ++ self.new.answers.items ≡ line_answers (lines input)) }
+        ensures run { OnOk result ((input written : List ℕ) → Stands input written self.old → written ++ self.new.answers.items ≡ line_answers (input_lines input)) }
     {
         answer(self.line.as_slice(), &mut self.octets, &mut self.answers)?;
         self.line.clear();

@@ -1,6 +1,6 @@
 // A line of hex pairs, read as octets.
 ghost use Rattle.std.specs.Prelude.{◌≡◌, IfOk};
-ghost use Rattle.decode.specs.Spelling.{is_white, digit_value, pair_value, spelled, Reads};
+ghost use Rattle.decode.specs.Spelling.{is_white, hex_value, pair_value, spelled, Reads};
 
 use std::alloc::AllocError;
 
@@ -21,7 +21,7 @@ fn is_white(byte: u8) -> bool
 
 // The value of a hex digit, in either case.
 fn digit(byte: u8) -> Option<u8>
-    ensures { result ≡ digit_value byte }
+    ensures { result ≡ hex_value byte }
 {
     match byte {
         b'0'..=b'9' => Some(byte - b'0'),

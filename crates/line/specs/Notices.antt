@@ -31,21 +31,21 @@ abbrev pub lowered : ℤ → ℤ
 lowered z = int_max (z -ℤ pos 1) (negsuc 126)
 
 -- an own notice becomes the latest, and the sum is as given
-abbrev pub latest : OwnNotice → ℤ → Standing
-latest n z = record { latest = Some n; heard = z }
+abbrev pub with_latest : OwnNotice → ℤ → Standing
+with_latest n z = record { latest = Some n; heard = z }
 
 -- a notice about another party leaves the latest own one
-abbrev pub sum : Standing → ℤ → Standing
-sum s z = record { latest = s.latest; heard = z }
+abbrev pub with_heard : Standing → ℤ → Standing
+with_heard s z = record { latest = s.latest; heard = z }
 
 -- the standing once a notice is heard
 abbrev pub after : Notice → Standing → Standing
-after Established s = latest own.Established (pos 0)
-after Disconnected s = latest own.Disconnected s.heard
-after OtherAdded s = sum s (raised s.heard)
-after Isolated s = latest own.Isolated s.heard
-after Reattached s = latest own.Reattached s.heard
+after Established s = with_latest own.Established (pos 0)
+after Disconnected s = with_latest own.Disconnected s.heard
+after OtherAdded s = with_heard s (raised s.heard)
+after Isolated s = with_latest own.Isolated s.heard
+after Reattached s = with_latest own.Reattached s.heard
 after OtherIsolated s = s
 after OtherReattached s = s
-after OtherSplit s = sum s (lowered s.heard)
-after OtherDisconnected s = sum s (lowered s.heard)
+after OtherSplit s = with_heard s (lowered s.heard)
+after OtherDisconnected s = with_heard s (lowered s.heard)
