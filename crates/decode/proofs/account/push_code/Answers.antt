@@ -1,5 +1,5 @@
 use Rattle.std.proofs.Common.{ap, w16}
-use mir.ValLaws.{to_z-of_z}
+use Rattle.std.proofs.lemmas.Int.{to_z-of_z}
 use Rattle.std.specs.Fmt.{signed_decimal}
 use Rattle.decode.proofs.Appending.{after, reworded}
 use Rattle.decode.proofs.account.push_code.Goals as goal

@@ -8,11 +8,11 @@ use Rattle.decode.proofs.Appending.{after, and_nothing, reworded}
 use Rattle.decode.proofs.account.push_read.Goals as goal
 
 -- nothing stands under a component that is no invoke
-nothing-under : (v : Component) (xs : List ℕ) → ((id operation : ℤ) (argument : Option Parameter) → v ≡ Invoke id operation argument → ⊥) → under (said v) xs ≡ []
-nothing-under (Invoke id operation argument) xs n = absurd (n id operation argument refl)
-nothing-under (ReturnResult id answer) xs n = refl
-nothing-under (ReturnError id error parameter) xs n = refl
-nothing-under (Reject id problem) xs n = refl
+nothing_under : (v : Component) (xs : List ℕ) → ((id operation : ℤ) (argument : Option Parameter) → v ≡ Invoke id operation argument → ⊥) → under (said v) xs ≡ []
+nothing_under (Invoke id operation argument) xs n = absurd (n id operation argument refl)
+nothing_under (ReturnResult id answer) xs n = refl
+nothing_under (ReturnError id error parameter) xs n = refl
+nothing_under (Reject id problem) xs n = refl
 
 pub returns-in-Invoke : goal.returns-in-Invoke
 returns-in-Invoke c =
@@ -21,4 +21,4 @@ returns-in-Invoke c =
 
 pub returns-in_default : goal.returns-in_default
 returns-in_default c =
-    and_nothing (nothing-under c.args.component c.args.octets.now c.in_default.not-Invoke) c.in_ok-push_component.ensures
+    and_nothing (nothing_under c.args.component c.args.octets.now c.in_default.not-Invoke) c.in_ok-push_component.ensures

@@ -1,5 +1,5 @@
 use Rattle.std.proofs.Common.{[], ◌∷◌, vec_items, decimal, ap, ◌∙◌, w16}
-use mir.ValLaws.{to_z-of_z}
+use Rattle.std.proofs.lemmas.Int.{to_z-of_z}
 use Rattle.decode.proofs.Appending.{at, after_bytes, reworded, signed_below, signed_above}
 use Rattle.decode.proofs.figures.push_signed.Goals as goal
 use Rattle.decode.proofs.figures.push_signed.Goals.{then-n-lt0+in_ok-push, else-n-lt0}

@@ -1,5 +1,5 @@
 use Rattle.std.proofs.Common.{◌+◌, ◌<◌, length, take, vec_items, refl, ap, subst, rules}
-use native.Mathlib.Nat.{sub-zero}
+use Rattle.std.proofs.Math.Nat.{sub-zero}
 use Rattle.std.proofs.lemmas.List.{take_rest}
 use Rattle.decode.proofs.Cutting.{Unbroken, always, appended, made_from, last_turn, next_turn}
 use Rattle.decode.proofs.Standing.{on}
