@@ -1,10 +1,10 @@
--- A whole value in front of other octets, and a value at another place. Assumes nothing.
-use Rattle.std.proofs.Common.{◌≡◌, ℕ, zero, suc, ◌+◌, ◌<◌, Bool, true, false, cond, List, [], ◌∷◌, ◌++◌, length, get_or, Some, None, Option, sym, refl, ap, ◌∙◌, append-nil, arith, length-append}
+-- A whole value in front of other octets. Assumes nothing.
+use Rattle.std.proofs.Common.{◌≡◌, ℕ, ◌+◌, ◌<◌, true, List, [], ◌∷◌, ◌++◌, length, get_or, None, sym, refl, ap, ◌∙◌, append-nil, arith, length-append}
 use Rattle.std.proofs.lemmas.List.{take_at, drop_at, get_or_append_left}
-use Rattle.ber.specs.Structure.{or_else, first_bad, bad_value, bad_list, values}
-use Rattle.ber.specs.Value.{begins_with_value, is_short_tag, is_constructed, tag, size, front, behind, contents}
+use Rattle.ber.specs.Structure.{or_else, bad_value, bad_list, values}
+use Rattle.ber.specs.Value.{begins_with_value, is_short_tag, tag, size, front, behind}
 use Rattle.ber.proofs.Nesting.{whole_parts, whole_from, list_step, values_step, empty_list, no_values}
-use Rattle.ber.proofs.Taking.{both_none, front_same}
+use Rattle.ber.proofs.Taking.{front_same}
 
 -- one value alone: held whole, with nothing behind it
 pub record Alone (x : List ℕ) : Type 0 where
@@ -69,24 +69,3 @@ alone_values p x one = ap (values p) (sym (append-nil x)) ∙ joint_values x [] 
 pub alone_list : (n p : ℕ) (x : List ℕ) → Alone x → bad_value n p x ≡ None → bad_list n p x ≡ None
 alone_list n p x one well =
     ap (bad_list n p) (sym (append-nil x)) ∙ joint_list x [] one n p ∙ ap (λ o. or_else o (bad_list n (p + length x) [])) well ∙ empty_list n (p + length x) [] refl
-
--- a value that is well at one place is well at another
-moves : (bad : ℕ → List ℕ → Option ℕ) → ((p q : ℕ) (xs : List ℕ) → bad p xs ≡ None → bad q xs ≡ None) → (k p q : ℕ) (xs : List ℕ) → first_bad bad k p xs ≡ None → first_bad bad k q xs ≡ None
-unfolding first_bad
-moves bad move k p q [] well = refl
-moves bad move zero p q (x ∷ xs) well =
-    let parts = both_none (bad p (x ∷ xs)) (first_bad bad (suc (get_or xs 0 0)) (suc p) xs) well in
-    ap (λ o. or_else o (first_bad bad (suc (get_or xs 0 0)) (suc q) xs)) (move p q (x ∷ xs) parts.0) ∙ moves bad move (suc (get_or xs 0 0)) (suc p) (suc q) xs parts.1
-moves bad move (suc k) p q (x ∷ xs) well = moves bad move k (suc p) (suc q) xs well
-
--- one level of nesting more
-pub value_moves : (n p q : ℕ) (xs : List ℕ) → bad_value n p xs ≡ None → bad_value n q xs ≡ None
-unfolding bad_value
-value_moves zero p q xs well = let no : ◌≡◌ {A = ℕ} 0 1 = cc in absurd (omega arith)
-value_moves (suc n) p q xs well = at (value_moves n) (begins_with_value xs) (is_constructed (tag xs)) well
-  where
-    at : ((p q : ℕ) (xs : List ℕ) → bad_value n p xs ≡ None → bad_value n q xs ≡ None) → (whole nested : Bool)
-        → cond whole (cond nested (first_bad (bad_value n) 0 (p + 2) (contents xs)) None) (Some p) ≡ None → cond whole (cond nested (first_bad (bad_value n) 0 (q + 2) (contents xs)) None) (Some q) ≡ None
-    at move true true h = moves (bad_value n) move 0 (p + 2) (q + 2) (contents xs) h
-    at move true false h = refl
-    at move false nested h = let no : ◌≡◌ {A = ℕ} 0 1 = cc in absurd (omega arith)

@@ -1,8 +1,9 @@
 -- One step of the check of structure, and what a window shows of the octets under it. Assumes nothing.
-use Rattle.std.proofs.Common.{◌≡◌, ℕ, zero, suc, ◌+◌, ◌-◌, ◌<◌, ◌≤◌, true, false, cond, ◌&&◌, leb, List, [], ◌∷◌, length, get_or, take, drop, Some, None, Option, sym, refl, ap, ◌∙◌, add-zero, arith, length-drop, length-take}
+use Rattle.std.proofs.Common.{◌≡◌, ℕ, zero, suc, ◌+◌, ◌-◌, ◌<◌, ◌≤◌, true, false, cond, List, [], ◌∷◌, length, get_or, take, drop, Some, None, Option, sym, refl, ap, ◌∙◌, add-zero, arith, length-drop, length-take}
 use Rattle.std.specs.List.{between}
 use Rattle.std.proofs.lemmas.List.{drop-take, drop-drop, take-take, length-take-le, get_or-take}
-use Rattle.std.proofs.lemmas.Bool.{cond-true, cond-false, and_parts, and_from, leb-true, le-leb}
+use Rattle.std.proofs.lemmas.Bool.Decides.{nat_tests}
+use Rattle.std.proofs.lemmas.Bool.{cond-true, cond-false}
 use Rattle.ber.specs.Structure.{or_else, first_bad, bad_value, bad_list, Part, values_after, values}
 use Rattle.ber.specs.Value.{begins_with_value, is_short_tag, is_constructed, tag, size, front, behind, contents}
 
@@ -119,15 +120,10 @@ pub record Whole (xs : List ℕ) : Type 0 where
 
 -- the test, taken apart and put together
 pub whole_parts : (xs : List ℕ) → begins_with_value xs ≡ true → Whole xs
-whole_parts xs whole =
-    let a = and_parts (leb 2 (length xs)) (is_short_tag (tag xs) && (leb (get_or xs 1 0) 127 && leb (size xs) (length xs))) whole in
-    let b = and_parts (is_short_tag (tag xs)) (leb (get_or xs 1 0) 127 && leb (size xs) (length xs)) a.1 in
-    let d = and_parts (leb (get_or xs 1 0) 127) (leb (size xs) (length xs)) b.1 in
-    record { two = leb-true _ _ a.0; tag_short = b.0; length_short = leb-true _ _ d.0; held = leb-true _ _ d.1 }
+whole_parts xs whole = record { two = grind (arith, nat_tests); tag_short = grind (arith, nat_tests); length_short = grind (arith, nat_tests); held = grind (arith, nat_tests) }
 
 pub whole_from : (xs : List ℕ) → Whole xs → begins_with_value xs ≡ true
-whole_from xs w =
-    and_from _ _ (le-leb _ _ w.two) (and_from _ _ w.tag_short (and_from _ _ (le-leb _ _ w.length_short) (le-leb _ _ w.held)))
+whole_from xs w = let two = w.two in let short = w.tag_short in let few = w.length_short in let held = w.held in grind (arith, nat_tests)
 
 -- a value that is held whole is no longer than what holds it
 pub held_whole : (xs : List ℕ) → begins_with_value xs ≡ true → size xs ≤ length xs

@@ -1,15 +1,14 @@
 -- What well-structured octets give when their values are taken one by one. Assumes nothing.
-use Rattle.std.proofs.Common.{◌≡◌, ℕ, zero, suc, ◌+◌, ◌-◌, ◌<◌, ◌≤◌, true, false, cond, eqb, List, [], ◌∷◌, length, drop, Some, None, Option, sym, refl, ap, ◌∙◌, ⊎_elim, arith, length-drop}
+use Rattle.std.proofs.Common.{◌≡◌, ℕ, zero, suc, ◌+◌, ◌-◌, ◌<◌, ◌≤◌, true, false, cond, eqb, List, [], ◌∷◌, length, drop, None, Option, sym, refl, ap, ◌∙◌, arith, length-drop}
 use Rattle.std.proofs.lemmas.List.{take_all, get_or-take}
-use Rattle.std.proofs.lemmas.Bool.{cond-true, cases_Bool, both_ways, and_parts, eqb-true}
+use Rattle.std.proofs.lemmas.Bool.{cond-true, and_parts, eqb-true}
 use Rattle.ber.specs.Structure.{or_else, bad_value, bad_list, values}
 use Rattle.ber.specs.Value.{begins_with_value, is_short_tag, is_constructed, is_tagged, tag, size, front, behind, contents}
 use Rattle.ber.proofs.Nesting.{list_step, values_step, value_step, value_cut, value_nested, no_level, whole_parts, whole_from, front_length, front_tag}
 
 -- the first of two places is none, and so is the second
 pub both_none : (o later : Option ℕ) → or_else o later ≡ None → (o ≡ None) × (later ≡ None)
-both_none None later h = (refl, h)
-both_none (Some p) later h = (h, let no : ◌≡◌ {A = ℕ} 0 1 = cc in absurd (omega arith))
+both_none o later h = grind arith
 
 -- in a list that is well, the value at the front is, and so is the list behind it
 pub well_parts : (n p : ℕ) (xs : List ℕ) → 0 < length xs → bad_list n p xs ≡ None → (bad_value n p xs ≡ None) × (bad_list n (p + size xs) (behind xs) ≡ None)
@@ -17,15 +16,12 @@ well_parts n p xs some well = both_none (bad_value n p xs) (bad_list n (p + size
 
 -- a value that is well has a level to stand on
 pub well_level : (n p : ℕ) (xs : List ℕ) → bad_value n p xs ≡ None → 0 < n
-well_level zero p xs well = let e = no_level p xs in let no : ◌≡◌ {A = ℕ} 0 1 = cc in absurd (omega arith)
+well_level zero p xs well = let e = no_level p xs in grind arith
 well_level (suc n) p xs well = omega arith
 
 -- and is held whole
 pub well_whole : (n p : ℕ) (xs : List ℕ) → bad_value n p xs ≡ None → begins_with_value xs ≡ true
-well_whole n p xs well =
-    ⊎_elim (λ whole. whole)
-    (λ cut. let e = value_cut n p xs (well_level n p xs well) cut in let no : ◌≡◌ {A = ℕ} 0 1 = cc in absurd (omega arith))
-    (cases_Bool (begins_with_value xs))
+well_whole n p xs well = grind (arith, well_level n p xs well, value_cut n p xs)
 
 -- the value at the front, alone, has the size that it had
 front_size : (xs : List ℕ) → size (front xs) ≡ size xs
@@ -61,9 +57,8 @@ front_same (suc n) p xs whole =
 pub nothing_left : (n p : ℕ) (xs : List ℕ) → bad_list n p xs ≡ None → begins_with_value xs ≡ false → length xs ≡ 0
 nothing_left n p [] well cut = refl
 nothing_left n p (x ∷ xs) well cut =
-    let some : 0 < length (x ∷ xs) = omega arith in
-    let whole = well_whole n p (x ∷ xs) (well_parts n p (x ∷ xs) some well).0 in
-    absurd (both_ways (begins_with_value (x ∷ xs)) cut whole)
+    let whole = well_whole n p (x ∷ xs) (well_parts n p (x ∷ xs) (omega arith) well).0 in
+    grind arith
 
 -- one value is taken from octets that are well: which values they have, and that the rest is well
 module _ (p : ℕ) (xs octets rest : List ℕ) (whole : begins_with_value xs ≡ true) (is_front : octets ≡ front xs) (is_behind : rest ≡ behind xs) where

@@ -6,7 +6,7 @@ ghost use Rattle.ber.specs.Integer.{is_short, as_integer, integer_octets};
 pub fn is_short(n: i16) -> bool
     ensures { result ≡ is_short n }
 {
-    -128 <= n && n <= 127
+    (-128..=127).contains(&n)
 }
 
 // The number that a value holds, if the value is an INTEGER.
@@ -14,7 +14,7 @@ pub fn read_integer(value: &[u8]) -> Option<i16>
     ensures { result ≡ as_integer value.now }
 {
     match value {
-        [0x02, 0x01, low] => Some(i16::from(i8::from_be_bytes([*low]))),
+        [0x02, 0x01, low] => Some(i16::from(low.cast_signed())),
         [0x02, 0x02, high, low] => {
             let n = i16::from_be_bytes([*high, *low]);
             if is_short(n) { None } else { Some(n) }

@@ -10,4 +10,4 @@ mod window;
 
 pub use integer::{integer_size, is_short, read_integer};
 pub use value::read_value;
-pub use window::check_structure;
+pub use window::{BadValue, check_structure};

@@ -9,11 +9,10 @@ pub fn read_value(octets: &[u8]) -> Option<(&[u8], &[u8])>
     let [tag, length, ..] = octets else {
         return None;
     };
-    let size = 2 + *length as usize;
-    if *tag & 0x1f == 0x1f || *length > 127 || size > octets.len() {
+    if *tag & 0x1f == 0x1f || *length > 127 {
         return None;
     }
-    Some(octets.split_at(size))
+    octets.split_at_checked(2 + usize::from(*length))
 }
 
 // The contents are values again.

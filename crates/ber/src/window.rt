@@ -1,26 +1,35 @@
-// Whether values are well structured, checked over a window of the octets that narrows to each nested value.
+// Whether values are well structured, checked by a reader whose window narrows to each nested value.
 ghost use Rattle.std.specs.Prelude.{◌≡◌, ◌-◌, ◌<◌, MatchOption};
-ghost use Rattle.ber.specs.Windows.{Within, ValueChecked, ListChecked, StructureChecked};
+ghost use Rattle.ber.specs.Windows.{Within, Kept, ValueChecked, ListChecked, StructureChecked};
 
 use crate::value::{is_constructed, read_value};
 
-// The octets still to be read: from `pos` up to `end`.
+// A value that is not well structured, by the place of its first octet.
+#[derive(Clone, Copy, PartialEq, Eq, Debug)]
+pub struct BadValue {
+    pub place: usize,
+}
+
+// Octets, and the window over those still to be read: from `pos` up to `end`. Places and no sub-slice, since a fault is told
+// by its place in all the octets, and the guard below puts the outer end back.
 #[derive(Clone, Copy)]
-struct Window {
+struct Window<'a> {
+    octets: &'a [u8],
     pos: usize,
     end: usize,
 }
 
 // Stands while the window is narrowed to a nested value. The outer end is restored when the value is left, also by a fault.
-struct Nested<'w> {
-    window: &'w mut Window,
+struct Nested<'w, 'a> {
+    window: &'w mut Window<'a>,
     outer: usize,
 }
 
-impl Drop for Nested<'_> {
+impl Drop for Nested<'_, '_> {
     fn drop(self)
         ensures end_value { self.exit.0.now.end ≡ self.entry.outer }
         ensures pos_value { self.exit.0.now.pos ≡ self.entry.window.now.pos }
+        ensures octets_value { self.exit.0.now.octets ≡ self.entry.window.now.octets }
     {
         self.window.end = self.outer;
         let Nested {
@@ -37,58 +46,60 @@ fn inner_levels(levels: u8) -> Option<u8>
     levels.checked_sub(1)
 }
 
-// Passes over the value at the front of the window, or answers the place of the first badly structured value.
-#[cycle(check_list_check_value)]
-fn check_value(octets: &[u8], window: &mut Window, levels: u8) -> Result<(), usize>
-    requires within { Within window.old octets.now }
-    ensures end { window.new.end ≡ window.old.end }
-    ensures checked { ValueChecked levels octets.now window.old window.new result }
-{
-    let place = window.pos;
-    let Some(inner) = inner_levels(levels) else {
-        return Err(place);
-    };
-    let Some((value, _)) = read_value(&octets[window.pos..window.end]) else {
-        return Err(place);
-    };
-    let size = value.len();
-    if is_constructed(value[0]) {
-        let outer = window.end;
-        window.pos = place + 2;
-        window.end = place + size;
-        let nested = Nested { window, outer };
-        check_list(octets, nested.window, inner)?;
+impl Window<'_> {
+    // Passes over the value at the front, or answers the first badly structured value.
+    #[cycle(check_list_check_value)]
+    fn check_value(&mut self, levels: u8) -> Result<(), BadValue>
+        requires within { Within self.old }
+        ensures kept { Kept self.old self.new }
+        ensures checked { ValueChecked levels self.old self.new result }
+    {
+        let place = self.pos;
+        let inner = inner_levels(levels).ok_or(BadValue { place })?;
+        let (value, _) = read_value(&self.octets[self.pos..self.end]).ok_or(BadValue { place })?;
+        let size = value.len();
+        if is_constructed(value[0]) {
+            let outer = self.end;
+            self.pos = place + 2;
+            self.end = place + size;
+            let nested = Nested {
+                window: self,
+                outer,
+            };
+            nested.window.check_list(inner)?;
+        }
+        self.pos = place + size;
+        Ok(())
     }
-    window.pos = place + size;
-    Ok(())
+
+    // Passes over all values, or answers the first badly structured one.
+    #[cycle(check_list_check_value)]
+    fn check_list(&mut self, levels: u8) -> Result<(), BadValue>
+        requires within { Within self.old }
+        ensures kept { Kept self.old self.new }
+        ensures checked { ListChecked levels self.old self.new result }
+    {
+        if self.pos == self.end {
+            return Ok(());
+        }
+        self.check_value(levels)?;
+        self.check_list(levels)
+    }
 }
 
-// Passes over all values of the window, or answers the place of the first badly structured one.
-#[cycle(check_list_check_value)]
-fn check_list(octets: &[u8], window: &mut Window, levels: u8) -> Result<(), usize>
-    requires within { Within window.old octets.now }
-    ensures end { window.new.end ≡ window.old.end }
-    ensures checked { ListChecked levels octets.now window.old window.new result }
-{
-    if window.pos == window.end {
-        return Ok(());
-    }
-    check_value(octets, window, levels)?;
-    check_list(octets, window, levels)
-}
-
-// The place behind the value that stands at a place, for which `levels` of nesting are left; or the place of the first
-// badly structured value in it.
-pub fn check_structure(octets: &[u8], place: usize, levels: u8) -> Result<usize, usize>
+// The place behind the value that stands at a place, for which `levels` of nesting are left; or the first badly structured
+// value in it.
+pub fn check_structure(octets: &[u8], place: usize, levels: u8) -> Result<usize, BadValue>
     ensures { StructureChecked levels place octets.now result }
 {
     if place > octets.len() {
-        return Err(place);
+        return Err(BadValue { place });
     }
     let mut window = Window {
+        octets,
         pos: place,
         end: octets.len(),
     };
-    check_value(octets, &mut window, levels)?;
+    window.check_value(levels)?;
     Ok(window.pos)
 }

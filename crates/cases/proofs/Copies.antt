@@ -1,6 +1,5 @@
 -- What writing does with a component that was read. Assumes nothing.
-use Rattle.std.proofs.Common.{◌≡◌, ℕ, List, ◌++◌, length, drop, is_ok, Ok, Err, Result, sym, refl, ap, ◌∙◌, arith}
-use Rattle.std.proofs.lemmas.Bool.{true≢false, false≢true}
+use Rattle.std.proofs.Common.{◌≡◌, ℕ, List, length, is_ok, Ok, Err, Result, refl, ap, arith}
 use Rattle.components.specs.declared.write.Refusal.{Refusal}
 use Rattle.components.specs.declared.write.Refusal.TheVariants.{Unreadable, ShortMemory}
 use Rattle.components.specs.Component.{Said}
@@ -12,18 +11,18 @@ use Rattle.cases.specs.Copying.{Copies}
 module _ (xs before after : List ℕ) (s : Said) (reads : reading xs ≡ Ok s) (octets : encoded s ≡ xs) (place : placed s ≡ s) where
   -- its octets read back as it
   back : Readable s
-  back = ap reading octets ∙ reads ∙ ap Ok (sym place)
+  back = rw (octets, place) reads
 
   -- so it is refused only for want of room
   pub copied : (r : Result ℕ Refusal) → Written s before after r → Copies xs before after (is_ok r)
   copied (Ok n) told = record {
-    done = λ _. told.2 ∙ ap (λ l. l ++ drop n before) octets ∙ ap (λ k. xs ++ drop k before) (told.1 ∙ ap length octets);
-    refused = λ e. absurd (true≢false e);
+    done = λ _. cc (told.1, told.2, octets);
+    refused = λ e. cc;
     always = λ _ _ _. refl;
   }
   copied (Err Unreadable) told = absurd (told.0 back)
   copied (Err ShortMemory) told = record {
-    done = λ e. absurd (false≢true e);
+    done = λ e. cc;
     refused = λ _. told.2;
     always = λ _ _ room. absurd (omega (arith, told.1, ap length octets));
   }

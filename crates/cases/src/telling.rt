@@ -21,7 +21,8 @@ pub fn worked_line()
 #[cfg(test)]
 mod tests {
     use line::{
-        Act, Board, Line, Notice, Outbox, OwnNotice, Refusal, Standing, on_new_lines, tell_each,
+        Act, Board, BothLines, Line, Notice, Outbox, OwnNotice, Refusal, Standing, on_new_lines,
+        tell_each,
     };
     use std::test::Fail;
 
@@ -32,51 +33,29 @@ mod tests {
         })
     }
 
-    // Legs 1 and 2 join a conference in turn; then leg 1 clears. There is no leg 65.
-    const CLEARING: [Act; 5] = [
-        Act::Tell {
-            leg: 1,
-            notice: Notice::Established,
-        },
-        Act::Tell {
-            leg: 2,
-            notice: Notice::Established,
-        },
-        Act::Tell {
-            leg: 65,
-            notice: Notice::OtherAdded,
-        },
-        Act::Tell {
-            leg: 1,
-            notice: Notice::OtherAdded,
-        },
-        Act::Tell {
-            leg: 2,
-            notice: Notice::OtherDisconnected,
-        },
-    ];
+    fn tell(leg: u8, notice: Notice) -> Act {
+        Act::Tell { leg, notice }
+    }
 
+    // Legs 1 and 2 join a conference in turn; then leg 1 clears. There is no leg 65.
     #[test]
     fn one_joins_and_one_clears(rt: HostRuntime) -> Result<(), Fail> {
-        let lines = on_new_lines(&CLEARING);
-        assert_eq!(rt;
-            lines.outbox.standing(1),
-            standing(OwnNotice::Established, 1)
-        );
-        assert_eq!(rt;
-            lines.outbox.standing(2),
-            standing(OwnNotice::Established, -1)
-        );
-        assert_eq!(rt;
-            lines.board.standing(2),
-            standing(OwnNotice::Established, -1)
-        );
-        assert_eq!(rt; lines.outbox.standing(3), Ok(Standing::new()));
-        assert_eq!(rt; lines.outbox.room(), 124);
-        let last = lines.outbox.message(3).ok_or("four wait")?;
+        let BothLines { outbox, board } = on_new_lines(&[
+            tell(1, Notice::Established),
+            tell(2, Notice::Established),
+            tell(65, Notice::OtherAdded),
+            tell(1, Notice::OtherAdded),
+            tell(2, Notice::OtherDisconnected),
+        ]);
+        assert_eq!(rt; outbox.standing(1), standing(OwnNotice::Established, 1));
+        assert_eq!(rt; outbox.standing(2), standing(OwnNotice::Established, -1));
+        assert_eq!(rt; board.standing(2), standing(OwnNotice::Established, -1));
+        assert_eq!(rt; outbox.standing(3), Ok(Standing::new()));
+        assert_eq!(rt; outbox.room(), 124);
+        let last = outbox.message(3).ok_or("four wait")?;
         assert_eq!(rt; last.place, 3);
         assert_eq!(rt; *last.octets, [0x02, 0x6e, 0x27, 0x01, 0xca]);
-        assert!(rt; lines.outbox.message(4).is_none());
+        assert!(rt; outbox.message(4).is_none());
         Ok(())
     }
 

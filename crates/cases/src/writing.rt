@@ -13,22 +13,16 @@ mod tests {
         }
     }
 
-    fn refused(r: Result<usize, Refusal>) -> u8 {
-        match r {
-            Ok(_) => 0,
-            Err(refusal) => refusal.number(),
-        }
+    // What writing answers, with a refusal by its number.
+    fn written(component: Component<'_>, memory: &mut [u8]) -> Result<usize, u8> {
+        component.write(memory).map_err(Refusal::number)
     }
 
     #[test]
     fn a_drop_fits_exactly(rt: HostRuntime) {
         let mut memory = [0xee; 16];
-        assert_eq!(rt;
-            drop_with(&[0x02, 0x01, 0x05])
-                .write(&mut memory[0..14])
-                .ok(),
-            Some(14)
-        );
+        let drop = drop_with(&[0x02, 0x01, 0x05]);
+        assert_eq!(rt; written(drop, &mut memory[0..14]), Ok(14));
         assert_eq!(rt;
             memory,
             [
@@ -41,25 +35,20 @@ mod tests {
     #[test]
     fn one_octet_too_little(rt: HostRuntime) {
         let mut memory = [0xee; 13];
-        assert_eq!(rt;
-            refused(drop_with(&[0x02, 0x01, 0x05]).write(&mut memory)),
-            8
-        );
+        let drop = drop_with(&[0x02, 0x01, 0x05]);
+        assert_eq!(rt; written(drop, &mut memory), Err(8));
         assert_eq!(rt; memory, [0xee; 13]);
     }
 
     #[test]
     fn an_argument_that_is_not_one_value(rt: HostRuntime) {
         let mut memory = [0xee; 13];
-        assert_eq!(rt;
-            refused(drop_with(&[0x02, 0x02, 0x05]).write(&mut memory)),
-            16
-        );
-        assert_eq!(rt;
-            refused(drop_with(&[0x02, 0x01, 0x05, 0x00]).write(&mut memory)),
-            16
-        );
-        assert_eq!(rt; refused(drop_with(&[]).write(&mut memory)), 16);
+        let too_short = drop_with(&[0x02, 0x02, 0x05]);
+        let too_long = drop_with(&[0x02, 0x01, 0x05, 0x00]);
+        let empty = drop_with(&[]);
+        assert_eq!(rt; written(too_short, &mut memory), Err(16));
+        assert_eq!(rt; written(too_long, &mut memory), Err(16));
+        assert_eq!(rt; written(empty, &mut memory), Err(16));
         assert_eq!(rt; memory, [0xee; 13]);
     }
 
@@ -69,12 +58,11 @@ mod tests {
         let mut octets = [0; 124];
         octets[0] = 0x04;
         octets[1] = 119;
-        assert_eq!(rt;
-            drop_with(&octets[0..121]).write(&mut memory).ok(),
-            Some(132)
-        );
+        let longest = drop_with(&octets[0..121]);
+        assert_eq!(rt; written(longest, &mut memory), Ok(132));
         octets[1] = 120;
-        assert_eq!(rt; refused(drop_with(&octets[0..122]).write(&mut memory)), 16);
+        let one_more = drop_with(&octets[0..122]);
+        assert_eq!(rt; written(one_more, &mut memory), Err(16));
         assert_eq!(rt; memory[132], 0xee);
     }
 }

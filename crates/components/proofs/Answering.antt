@@ -1,15 +1,13 @@
 -- Results and rejects read back from their octets. Assumes nothing.
-use Rattle.std.proofs.Common.{◌≡◌, ℕ, ◌+◌, ◌≤◌, List, [], ◌∷◌, ◌++◌, length, drop, ℤ, Some, None, Ok, Option, Result, sym, refl, ap, ◌∙◌, append-nil, arith, lit<, length-append, w16, SFits}
+use Rattle.std.proofs.Common.{◌≡◌, ℕ, ◌+◌, ◌≤◌, List, [], ◌∷◌, ◌++◌, length, ℤ, Some, None, Ok, Option, sym, refl, ap, ◌∙◌, append-nil, arith, lit<, length-append, w16, SFits}
 use Rattle.std.specs.Option.{option_map}
 use Rattle.std.proofs.lemmas.List.{take_all}
 use Rattle.std.proofs.lemmas.Bool.{cond-true, and_from, eq-eqb}
 use Rattle.components.specs.declared.component.Problem.{Problem}
-use Rattle.components.specs.declared.component.Problem.TheVariants as problem
-use Rattle.components.specs.declared.fault.Fault.{Fault}
 use Rattle.components.specs.Component.{result, reject}
 use Rattle.ber.specs.Integer.{integer_octets}
-use Rattle.ber.specs.Structure.{or_else, bad_value, bad_list, Part, values}
-use Rattle.components.specs.Typed.{and_then, taken, first, nothing_more, at_most_one, any, an_integer, integer_or_null, as_problem, a_problem, integer_and_value, an_answer, a_result, a_reject}
+use Rattle.ber.specs.Structure.{bad_value, bad_list, Part, values}
+use Rattle.components.specs.Typed.{and_then, at_most_one, any, integer_or_null, as_problem, integer_and_value, an_answer, a_result, a_reject}
 use Rattle.ber.specs.Value.{tagged}
 use Rattle.components.specs.Writing.{id_octets, answer_octets, problem_octets, moved, answer_moved, Fit, Each}
 use Rattle.ber.proofs.Appending.{Alone, joint_values, joint_list, alone_values, alone_list}
@@ -33,9 +31,7 @@ module _ (p : ℕ) (op : ℤ) (xs : List ℕ) (few : length (integer_octets op +
   -- it is as well as the value in it
   pub sequence_fault : bad_value 7 p sequence_octets ≡ bad_list 6 (p + 2 + length (integer_octets op)) xs
   sequence_fault =
-      value_nested 7 p sequence_octets (lit< tt) sequence_alone.whole refl
-      ∙ ap (λ l. bad_list 6 (p + 2) (drop 2 l)) (take_all (2 + length (integer_octets op ++ xs)) sequence_octets (omega arith))
-      ∙ one_list (p + 2) 6 (lit< tt) op xs
+      rw (value_nested 7 p sequence_octets (lit< tt) sequence_alone.whole refl, take_all (2 + length (integer_octets op ++ xs)) sequence_octets (omega arith)) (one_list (p + 2) 6 (lit< tt) op xs)
 
   -- and holds the operation and that value
   pub sequence_read : an_answer (record { octets = sequence_octets; place = p }) ≡ integer_and_value (record { octets = integer_octets op; place = p + 2 } ∷ values (p + 2 + length (integer_octets op)) xs)
@@ -45,17 +41,13 @@ module _ (p : ℕ) (op : ℤ) (xs : List ℕ) (few : length (integer_octets op +
 
 -- the value behind an operation is the last
 pair_last : (v : Part) (us : List Part) (a : ℤ × Part) → integer_and_value (v ∷ us) ≡ Some a → at_most_one any us ≡ Ok (Some a.1)
-pair_last v [] a is = let no : ◌≡◌ {A = ℕ} 0 1 = cc in absurd (omega arith)
-pair_last v (w ∷ []) a is = with_number (an_integer v) is
-  where
-    with_number : (o : Option ℤ) → option_map (λ n. (n, w)) o ≡ Some a → ◌≡◌ {A = Result (Option Part) Fault} (Ok (Some w)) (Ok (Some a.1))
-    with_number None e = let no : ◌≡◌ {A = ℕ} 0 1 = cc in absurd (omega arith)
-    with_number (Some n) e = let same : ◌≡◌ {A = ℤ × Part} (n, w) a = cc in ap (λ q. Ok (Some q.1)) same
-pair_last v (w ∷ u ∷ us) a is = let no : ◌≡◌ {A = ℕ} 0 1 = cc in absurd (omega arith)
+pair_last v [] a is = grind arith
+pair_last v (w ∷ []) a is = grind arith
+pair_last v (w ∷ u ∷ us) a is = grind arith
 
 -- an operation and a last value
 pair_made : (p : ℕ) (op : ℤ) (us : List Part) (w : Part) → SFits w16 op → us ≡ w ∷ [] → integer_and_value (record { octets = integer_octets op; place = p } ∷ us) ≡ Some (op, w)
-pair_made p op us w fits is = ap (λ l. integer_and_value (record { octets = integer_octets op; place = p } ∷ l)) is ∙ ap (option_map (λ n. (n, w))) (integer_reads op fits)
+pair_made p op us w fits is = rw (is, integer_reads op fits) refl
 
 -- an answer with its value at the place where it lies in a SEQUENCE at p
 abbrev pub answer_at : ℕ → ℤ × Part → ℤ × Part
@@ -64,7 +56,7 @@ answer_at p a = (a.0, moved (p + 2 + length (integer_octets a.0)) a.1)
 -- the answer of a result whose value is one value reads as itself
 answer_reads : (p : ℕ) (o : Option (ℤ × Part)) → Each (λ a. SFits w16 a.0) o → length (answer_octets o) ≤ 129 → Fit 6 (option_map (λ a. a.1) o)
     → (bad_list 7 p (answer_octets o) ≡ None) × (at_most_one an_answer (values p (answer_octets o)) ≡ Ok (option_map (answer_at p) o))
-answer_reads p None fits few fit = (empty_list 7 p [] refl, ap (at_most_one an_answer) (no_values p [] refl))
+answer_reads p None fits few fit = (empty_list 7 p [] refl, rw (no_values p [] refl) refl)
 answer_reads p (Some a) fits few fit =
     let xs = a.1.octets in
     let q = p + 2 + length (integer_octets a.0) in
@@ -75,13 +67,13 @@ answer_reads p (Some a) fits few fit =
     let read = sequence_read p a.0 xs short ∙ pair_made (p + 2) a.0 (values q xs) (moved q a.1) fits last in
     let v : Part = record { octets = sequence_octets p a.0 xs short; place = p } in (
       alone_list 7 p (answer_octets (Some a)) alone (sequence_fault p a.0 xs short ∙ r.0),
-      ap (at_most_one an_answer) (alone_values p (answer_octets (Some a)) alone) ∙ ap (λ t. and_then (taken v [] t) (λ one. and_then (nothing_more one.1) (λ _. Ok (Some one.0)))) read,
+      rw (alone_values p (answer_octets (Some a)) alone, read) refl,
     )
   where
     one_last : (us : List Part) (w : Part) → at_most_one any us ≡ Ok (Some w) → us ≡ w ∷ []
-    one_last [] w is = let no : ◌≡◌ {A = ℕ} 0 1 = cc in absurd (omega arith)
-    one_last (u ∷ []) w is = let same : u ≡ w = cc in ap (λ x. x ∷ []) same
-    one_last (u ∷ t ∷ ts) w is = let no : ◌≡◌ {A = ℕ} 0 1 = cc in absurd (omega arith)
+    one_last [] w is = cc
+    one_last (u ∷ []) w is = cc
+    one_last (u ∷ t ∷ ts) w is = cc
 
 -- and one that reads as itself has one value
 reads_answer : (p : ℕ) (o : Option (ℤ × Part)) → length (answer_octets o) ≤ 129 → bad_list 7 p (answer_octets o) ≡ None
@@ -99,29 +91,18 @@ reads_answer p (Some a) few well is =
     reads_fit 6 q (Some a.1) (sym (sequence_fault p a.0 xs short) ∙ inside.0) last
   where
     only_answer : (v : Part) (a : ℤ × Part) → at_most_one an_answer (v ∷ []) ≡ Ok (Some a) → an_answer v ≡ Some a
-    only_answer v a is = by (an_answer v) is
-      where
-        by : (t : Option (ℤ × Part)) → and_then (taken v [] t) (λ one. and_then (nothing_more one.1) (λ _. Ok (Some one.0))) ≡ Ok (Some a) → t ≡ Some a
-        by None e = let no : ◌≡◌ {A = ℕ} 0 1 = cc in absurd (omega arith)
-        by (Some b) e = cc
+    only_answer v a is = grind arith
 
 -- a result, read
 module _ (end : ℕ) (id : ℤ) (o : Option (ℤ × Part)) (fits : SFits w16 id) where
   -- the id reads, and what comes behind it is left
   result_typed : a_result end (values 5 (integer_octets id ++ answer_octets o)) ≡ and_then (at_most_one an_answer (values (5 + length (integer_octets id)) (answer_octets o))) (λ g. Ok (result id g))
   result_typed =
-      ap (a_result end) (one_values 5 7 (lit< tt) id (answer_octets o))
-      ∙ ap (λ r. and_then (taken (record { octets = integer_octets id; place = 5 }) (values (5 + length (integer_octets id)) (answer_octets o)) r) (λ i. and_then (at_most_one an_answer i.1) (λ g. Ok (result i.0 g)))) (integer_reads id fits)
+      rw (one_values 5 7 (lit< tt) id (answer_octets o), integer_reads id fits) refl
 
   -- the value lies behind the id, the head of the SEQUENCE and the operation
-  moved_there : (option_map (answer_at (5 + length (integer_octets id))) o ≡ option_map (answer_moved id) o)
-  moved_there = same o
-    where
-      same : (o : Option (ℤ × Part)) → option_map (answer_at (5 + length (integer_octets id))) o ≡ option_map (answer_moved id) o
-      same None = refl
-      same (Some a) =
-          let e : 5 + length (integer_octets id) + 2 + length (integer_octets a.0) ≡ 5 + (length (integer_octets id) + (2 + length (integer_octets a.0))) = omega arith in
-          ap (λ q. Some (a.0, moved q a.1)) e
+  moved_there : option_map (answer_at (5 + length (integer_octets id))) o ≡ option_map (answer_moved id) o
+  moved_there = grind arith
 
   -- what stands behind the id is not too long
   few_left : length (integer_octets id ++ answer_octets o) ≤ 127 → length (answer_octets o) ≤ 129
@@ -132,7 +113,7 @@ module _ (end : ℕ) (id : ℤ) (o : Option (ℤ × Part)) (fits : SFits w16 id)
       → (bad_list 7 5 (integer_octets id ++ answer_octets o) ≡ None) × (a_result end (values 5 (integer_octets id ++ answer_octets o)) ≡ Ok (result id (option_map (answer_moved id) o)))
   result_reads each few fit =
       let r = answer_reads (5 + length (integer_octets id)) o each (few_left few) fit in
-      (one_list 5 7 (lit< tt) id (answer_octets o) ∙ r.0, result_typed ∙ ap (λ t. and_then t (λ g. Ok (result id g))) (r.1 ∙ ap Ok moved_there))
+      (rw (one_list 5 7 (lit< tt) id (answer_octets o)) r.0, rw (result_typed, r.1, moved_there) refl)
 
   -- and if it reads as the result, the answer has one value
   pub result_fit : length (integer_octets id ++ answer_octets o) ≤ 127 → bad_list 7 5 (integer_octets id ++ answer_octets o) ≡ None
@@ -154,29 +135,19 @@ id_well (Some n) = integer_well 7 5 n (lit< tt)
 
 -- and reads as itself
 id_reads : (id : Option ℤ) → Each (λ n. SFits w16 n) id → integer_or_null (record { octets = id_octets id; place = 5 }) ≡ Some id
-id_reads None fits = refl
-id_reads (Some n) fits = ap (option_map Some) (integer_reads n fits)
+id_reads id fits = grind (arith, integer_reads)
 
 -- so does its problem
 problem_alone : (why : Problem) → Alone (problem_octets why)
-problem_alone (problem.General code) = record { whole = refl; all = refl }
-problem_alone (problem.Invoke code) = record { whole = refl; all = refl }
-problem_alone (problem.ReturnResult code) = record { whole = refl; all = refl }
-problem_alone (problem.ReturnError code) = record { whole = refl; all = refl }
+problem_alone why = record { whole = grind arith; all = grind arith }
 
 -- it is well
 problem_well : (p : ℕ) (why : Problem) → bad_value 7 p (problem_octets why) ≡ None
-problem_well p (problem.General code) = value_plain 7 p (tagged 0x80 (code ∷ [])) (lit< tt) refl refl
-problem_well p (problem.Invoke code) = value_plain 7 p (tagged 0x81 (code ∷ [])) (lit< tt) refl refl
-problem_well p (problem.ReturnResult code) = value_plain 7 p (tagged 0x82 (code ∷ [])) (lit< tt) refl refl
-problem_well p (problem.ReturnError code) = value_plain 7 p (tagged 0x83 (code ∷ [])) (lit< tt) refl refl
+problem_well p why = value_plain 7 p (problem_octets why) (lit< tt) (problem_alone why).whole (grind arith)
 
 -- and reads as itself
 problem_reads : (why : Problem) → as_problem (problem_octets why) ≡ Some why
-problem_reads (problem.General code) = refl
-problem_reads (problem.Invoke code) = refl
-problem_reads (problem.ReturnResult code) = refl
-problem_reads (problem.ReturnError code) = refl
+problem_reads why = grind arith
 
 -- a reject, read
 pub reject_reads : (end : ℕ) (id : Option ℤ) (why : Problem) → Each (λ n. SFits w16 n) id
@@ -185,9 +156,7 @@ reject_reads end id why fits =
     let v : Part = record { octets = id_octets id; place = 5 } in
     let p = 5 + length (id_octets id) in
     let w : Part = record { octets = problem_octets why; place = p } in
-    let all = joint_values (id_octets id) (problem_octets why) (id_alone id) 5 ∙ ap (λ l. v ∷ l) (alone_values p (problem_octets why) (problem_alone why)) in (
-      joint_list (id_octets id) (problem_octets why) (id_alone id) 7 5 ∙ ap (λ o. or_else o (bad_list 7 p (problem_octets why))) (id_well id) ∙ alone_list 7 p (problem_octets why) (problem_alone why) (problem_well p why),
-      ap (a_reject end) all
-          ∙ ap (λ r. and_then (taken v (w ∷ []) r) (λ i. and_then (first a_problem end i.1) (λ y. and_then (nothing_more y.1) (λ _. Ok (reject i.0 y.0))))) (id_reads id fits)
-          ∙ ap (λ r. and_then (taken w [] r) (λ y. and_then (nothing_more y.1) (λ _. Ok (reject id y.0)))) (problem_reads why),
+    let all : values 5 (id_octets id ++ problem_octets why) ≡ v ∷ w ∷ [] = rw (joint_values (id_octets id) (problem_octets why) (id_alone id) 5, alone_values p (problem_octets why) (problem_alone why)) refl in (
+      rw (joint_list (id_octets id) (problem_octets why) (id_alone id) 7 5, id_well id) (alone_list 7 p (problem_octets why) (problem_alone why) (problem_well p why)),
+      rw (all, id_reads id fits, problem_reads why) refl,
     )

@@ -1,7 +1,7 @@
 -- What reading answers for the octets of a component, by the values that it holds. Assumes nothing.
-use Rattle.std.proofs.Common.{◌≡◌, ℕ, ◌+◌, ◌≤◌, true, List, length, drop, Some, None, Option, refl, ap, ◌∙◌, arith, lit<}
+use Rattle.std.proofs.Common.{◌≡◌, ℕ, ◌+◌, ◌≤◌, true, List, length, Some, None, Option, refl, ◌∙◌, arith, lit<}
 use Rattle.std.proofs.lemmas.List.{take_all}
-use Rattle.std.proofs.lemmas.Bool.{cond-true, eq-eqb}
+use Rattle.std.proofs.lemmas.Bool.{eq-eqb}
 use Rattle.std.proofs.lemmas.Bool.Decides.{nat_tests}
 use Rattle.components.specs.Component.{Said, invoke, result, error, reject}
 use Rattle.components.specs.Reading.{is_component_tag, bad_component, by_tag, structured, head_fault, reading_component, reading}
@@ -37,10 +37,7 @@ or_none (Some p) = refl
 tagged_fault : (t : ℕ) (xs : List ℕ) → is_short_tag t ≡ true → is_constructed t ≡ true → length xs ≤ 127 → bad_component (tagged t xs) ≡ bad_list 7 5 xs
 tagged_fault t xs short nested few =
     let same = eq-eqb (2 + length xs) (length (tagged t xs)) (omega arith) in
-    ap (or_else (bad_value 8 3 (tagged t xs))) (cond-true _ _ _ same)
-    ∙ or_none (bad_value 8 3 (tagged t xs))
-    ∙ value_nested 8 3 (tagged t xs) (lit< tt) (tagged_whole t xs short few) nested
-    ∙ ap (λ l. bad_list 7 5 (drop 2 l)) (take_all (2 + length xs) (tagged t xs) (omega arith))
+    rw (same, or_none (bad_value 8 3 (tagged t xs)), value_nested 8 3 (tagged t xs) (lit< tt) (tagged_whole t xs short few) nested, take_all (2 + length xs) (tagged t xs) (omega arith)) refl
 
 -- the head of an element that is not too long is well
 encoded_head : (s : Said) → length (component_contents s) ≤ 127 → head_fault (encoded s) ≡ None
@@ -55,6 +52,4 @@ reading_encoded s few =
     let cs = component_contents s in
     let long : 3 + length (tagged t cs) ≡ 5 + length cs = omega arith in
     behind_head (encoded s) (tagged t cs) (encoded_head s few) refl
-    ∙ cond-true _ _ _ (tags_known s)
-    ∙ ap (λ o. structured o (by_tag t (3 + length (tagged t cs)) (values 5 cs))) (tagged_fault t cs (tags_short s) (component_constructed t (tags_known s)) few)
-    ∙ ap (λ n. structured (bad_list 7 5 cs) (by_tag t n (values 5 cs))) long
+    ∙ rw (tags_known s, tagged_fault t cs (tags_short s) (component_constructed t (tags_known s)) few, long) refl

@@ -1,33 +1,20 @@
 -- When a whole component is well structured. Assumes nothing.
-use Rattle.std.proofs.Common.{◌≡◌, ℕ, ◌+◌, ◌≤◌, true, false, cond, eqb, leb, List, length, drop, Some, None, Err, sym, ap, ◌∙◌, ⊎_elim, arith, lit<}
+use Rattle.std.proofs.Common.{◌≡◌, ℕ, ◌+◌, ◌≤◌, true, false, List, length, drop, Some, None, Err, sym, ap, ◌∙◌, ⊎_elim, arith, lit<}
 use Rattle.std.proofs.lemmas.List.{take_all}
-use Rattle.std.proofs.lemmas.Bool.{cond-true, cond-false, cases_Bool, cases_eq, eq-eqb, ne_eqb, eqb-true, leb-true, and_parts}
+use Rattle.std.proofs.lemmas.Bool.Decides.{nat_tests}
+use Rattle.std.proofs.lemmas.Bool.{cond-true, cond-false, cases_eq}
 use Rattle.components.specs.declared.fault.Cause.TheVariants.{Tag, Structure}
 use Rattle.components.specs.declared.fault.Fault.{Fault}
 use Rattle.components.specs.Faults.{at}
 use Rattle.components.specs.Reading.{is_component_tag, bad_component, by_tag, structured, head_fault, unless, reading_component, reading}
-use Rattle.ber.specs.Structure.{or_else, bad_value, bad_list, values}
+use Rattle.ber.specs.Structure.{bad_value, bad_list, values}
 use Rattle.ber.specs.Value.{is_constructed, tag, size}
 use Rattle.ber.proofs.Nesting.{value_nested}
-use Rattle.ber.proofs.Taking.{both_none, well_whole}
+use Rattle.ber.proofs.Taking.{well_whole}
 
--- a value in it is at fault
-pub component_fault : (xs : List ℕ) (p : ℕ) → bad_value 8 3 xs ≡ Some p → bad_component xs ≡ Some p
-component_fault xs p bad = ap (λ o. or_else o (cond (eqb (size xs) (length xs)) None (Some (3 + size xs)))) bad
-
--- something stands behind it
-pub component_surplus : (xs : List ℕ) → bad_value 8 3 xs ≡ None → (size xs ≡ length xs → ⊥) → bad_component xs ≡ Some (3 + size xs)
-component_surplus xs well more = ap (λ o. or_else o (cond (eqb (size xs) (length xs)) None (Some (3 + size xs)))) well ∙ cond-false _ _ _ (ne_eqb _ _ more)
-
--- nothing is at fault
-pub component_well : (xs : List ℕ) → bad_value 8 3 xs ≡ None → size xs ≡ length xs → bad_component xs ≡ None
-component_well xs well all = ap (λ o. or_else o (cond (eqb (size xs) (length xs)) None (Some (3 + size xs)))) well ∙ cond-true _ _ _ (eq-eqb _ _ all)
-
--- and then every value is well, and nothing stands behind it
+-- nothing is at fault where every value is well, and nothing stands behind it
 pub component_parts : (xs : List ℕ) → bad_component xs ≡ None → (bad_value 8 3 xs ≡ None) × (size xs ≡ length xs)
-component_parts xs well =
-    let parts = both_none (bad_value 8 3 xs) (cond (eqb (size xs) (length xs)) None (Some (3 + size xs))) well in
-    (parts.0, ⊎_elim (λ all. eqb-true (size xs) (length xs) all) (λ more. let e = sym (cond-false (eqb (size xs) (length xs)) None (Some (3 + size xs)) more) ∙ parts.1 in let no : ◌≡◌ {A = ℕ} 0 1 = cc in absurd (omega arith)) (cases_Bool (eqb (size xs) (length xs))))
+component_parts xs well = grind (arith, nat_tests)
 
 -- it has a tag and a length
 pub component_long : (xs : List ℕ) → bad_component xs ≡ None → 2 ≤ length xs
@@ -36,11 +23,8 @@ component_long xs well = omega (arith, (component_parts xs well).1)
 -- its tag says that it holds values
 pub component_constructed : (t : ℕ) → is_component_tag t ≡ true → is_constructed t ≡ true
 component_constructed t known =
-    let parts = and_parts (leb 0xa1 t) (leb t 0xa4) known in
-    let low = leb-true 0xa1 t parts.0 in
-    let high = leb-true t 0xa4 parts.1 in
     ⊎_elim (λ e. ap is_constructed e) (λ n1. ⊎_elim (λ e. ap is_constructed e) (λ n2. ⊎_elim (λ e. ap is_constructed e)
-    (λ n3. let e : t ≡ 0xa4 = omega arith in ap is_constructed e) (cases_eq t 0xa3)) (cases_eq t 0xa2)) (cases_eq t 0xa1)
+    (λ n3. let e : t ≡ 0xa4 = grind (arith, nat_tests) in ap is_constructed e) (cases_eq t 0xa3)) (cases_eq t 0xa2)) (cases_eq t 0xa1)
 
 -- and they are well structured
 pub component_contents_well : (xs : List ℕ) → bad_component xs ≡ None → is_component_tag (tag xs) ≡ true → bad_list 7 5 (drop 2 xs) ≡ None

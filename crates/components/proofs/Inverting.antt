@@ -7,26 +7,22 @@ use Rattle.components.specs.Typed.{and_then, taken, first, nothing_more, at_most
 -- both steps went well
 pub then_parts : {X Y : Type 0} (r : Result X Fault) (next : X → Result Y Fault) (y : Y) → and_then r next ≡ Ok y → (x : X) × (r ≡ Ok x) × (next x ≡ Ok y)
 then_parts (Ok x) next y h = (x, refl, h)
-then_parts (Err f) next y h = let no : ◌≡◌ {A = ℕ} 0 1 = cc in absurd (omega arith)
+then_parts (Err f) next y h = grind arith
 
 -- the value was read, and the others are left
 taken_parts : {X : Type 0} (v : Part) (vs : List Part) (o : Option X) (x : X) (ws : List Part) → taken v vs o ≡ Ok (x, ws) → (o ≡ Some x) × (vs ≡ ws)
-taken_parts {X} v vs (Some y) x ws h =
-    let e : ◌≡◌ {A = X × List Part} (y, vs) (x, ws) = cc in
-    (ap (λ p. Some p.0) e, ap (λ p. p.1) e)
-taken_parts v vs None x ws h = let no : ◌≡◌ {A = ℕ} 0 1 = cc in absurd (omega arith)
+taken_parts v vs o x ws h = grind arith
 
 -- there was a value at the front, and it reads
 pub first_parts : {X : Type 0} (read : Part → Option X) (end : ℕ) (vs : List Part) (x : X) (ws : List Part) → first read end vs ≡ Ok (x, ws) → (v : Part) × (vs ≡ v ∷ ws) × (read v ≡ Some x)
-first_parts read end [] x ws h = let no : ◌≡◌ {A = ℕ} 0 1 = cc in absurd (omega arith)
+first_parts read end [] x ws h = grind arith
 first_parts read end (v ∷ vs) x ws h =
     let parts = taken_parts v vs (read v) x ws h in
     (v, ap (λ us. v ∷ us) parts.1, parts.0)
 
 -- nothing was left
 pub nothing_parts : (vs : List Part) → nothing_more vs ≡ Ok tt → vs ≡ []
-nothing_parts [] h = refl
-nothing_parts (v ∷ vs) h = let no : ◌≡◌ {A = ℕ} 0 1 = cc in absurd (omega arith)
+nothing_parts vs h = grind arith
 
 -- there was no value, or one that reads
 pub one_parts : {X : Type 0} (read : Part → Option X) (vs : List Part) (o : Option X) → at_most_one read vs ≡ Ok o

@@ -7,3 +7,4 @@ pub mod Returning
 pub mod Answering
 pub mod ReadBack
 pub mod Putting
+pub mod Printing

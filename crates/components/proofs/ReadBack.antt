@@ -1,14 +1,11 @@
 -- Which components read back from their octets: those that are sound and not too long. Assumes nothing.
-use Rattle.std.proofs.Common.{◌≡◌, ℕ, ◌+◌, ◌≤◌, List, ◌++◌, length, ℤ, Some, None, Ok, Err, Option, sym, refl, ap, ◌∙◌, subst, arith, length-append}
-use Rattle.std.proofs.lemmas.List.{length-take-le}
+use Rattle.std.proofs.Common.{◌≡◌, ℕ, ◌+◌, ◌<◌, ◌≤◌, List, length, ℤ, Some, None, Ok, Err, Option, sym, refl, ◌∙◌, arith, length-append}
 use Rattle.components.specs.declared.component.Problem.{Problem}
 use Rattle.components.specs.declared.component.Problem.TheVariants as problem
-use Rattle.components.specs.declared.write.Layout.{Layout}
 use Rattle.components.specs.declared.write.Refusal.{Refusal}
 use Rattle.components.specs.declared.write.Refusal.TheVariants.{Unreadable, ShortMemory}
 use Rattle.components.specs.Component.{Said, invoke, result, error, reject}
-use Rattle.components.specs.Layout.{held, Lays}
-use Rattle.components.specs.Reading.{by_tag, structured}
+use Rattle.components.specs.Reading.{by_tag}
 use Rattle.ber.specs.Structure.{bad_list, values}
 use Rattle.components.specs.Writing.{component_tag, component_contents, encoded, placed, id_octets, problem_octets, Readable, One, Sound, Sized, Written}
 use Rattle.components.proofs.Answering.{result_reads, result_fit, reject_reads}
@@ -40,7 +37,7 @@ contents_sound (reject id why) fits few is = tt
 pub readable_from : (s : Said) → Sized s → Sound s → length (component_contents s) ≤ 127 → Readable s
 readable_from s fits sound few =
     let is = contents_read s fits sound few in
-    reading_encoded s few ∙ ap (λ o. structured o (by_tag (component_tag s) (5 + length (component_contents s)) (values 5 (component_contents s)))) is.0 ∙ is.1
+    rw (reading_encoded s few, is.0) is.1
 
 -- what reads back is sound, and not too long
 pub readable_few : (s : Said) → Readable s → length (component_contents s) ≤ 127
@@ -51,18 +48,14 @@ readable_sound s fits is =
     let few = readable_few s is in
     contents_sound s fits few (structured_parts (bad_list 7 5 (component_contents s)) (by_tag (component_tag s) (5 + length (component_contents s)) (values 5 (component_contents s))) (placed s) (sym (reading_encoded s few) ∙ is))
 
+-- a component that is not sound, or is too long, is refused
+pub refused : (s : Said) (memory : List ℕ) (e : Refusal) → Sized s → (Sound s → 127 < length (component_contents s)) → e ≡ Unreadable → Written s memory memory (Err e)
+refused s memory e fits long is =
+    rw is (λ reads. omega (arith, readable_few s reads, long (readable_sound s fits reads)), refl)
+
 -- one value has at most 129 octets
 pub one_few : (n : ℕ) (xs : List ℕ) → One n xs → length xs ≤ 129
 one_few n xs one = omega (arith, (whole_parts xs (well_whole n 0 xs one.well)).length_short, one.all)
-
--- the parts of a layout are as long as the contents
-pub lays_long : (l : Layout) (s : Said) → length l.id.octets ≡ 6 → length l.middle.octets ≡ 6 → Lays l s → l.id.length + l.middle.length + length l.parameter.now ≡ length (component_contents s)
-lays_long l s i m lays =
-    let e = sym (ap length lays.contents) ∙ length-append (held l.id) (held l.middle ++ l.parameter.now) in
-    let f = length-append (held l.middle) l.parameter.now in
-    let g = length-take-le l.id.length l.id.octets (omega (arith, lays.few_id)) in
-    let h = length-take-le l.middle.length l.middle.octets (omega (arith, lays.few_middle)) in
-    omega arith
 
 -- a reject is never refused where there is room for twelve octets
 problem_long : (why : Problem) → length (problem_octets why) ≡ 3
@@ -77,12 +70,8 @@ id_long None = omega arith
 id_long (Some n) = integer_long n
 
 -- so that a reject always fits
-pub reject_fits : (s : Said) (id : Option ℤ) (why : Problem) → s ≡ reject id why → Sized s → (before after : List ℕ) (e : Refusal) → 12 ≤ length before → Written s before after (Err e) → ⊥
-reject_fits s id why is fits before after e room told = refused e (subst (λ y. Written y before after (Err e)) is told)
-  where
-    few : length (id_octets id ++ problem_octets why) ≤ 7
-    few = omega (arith, length-append (id_octets id) (problem_octets why), problem_long why, id_long id)
-
-    refused : (e : Refusal) → Written (reject id why) before after (Err e) → ⊥
-    refused Unreadable told = told.0 (readable_from (reject id why) (subst Sized is fits) tt (omega (arith, few)))
-    refused ShortMemory told = omega (arith, told.1, few)
+pub reject_fits : (id : Option ℤ) (why : Problem) → Sized (reject id why) → (before after : List ℕ) (e : Refusal) → 12 ≤ length before
+    → Written (reject id why) before after (Err e) → ⊥
+reject_fits id why fits before after Unreadable room told =
+    told.0 (readable_from (reject id why) fits tt (omega (arith, length-append (id_octets id) (problem_octets why), problem_long why, id_long id)))
+reject_fits id why fits before after ShortMemory room told = omega (arith, told.1, length-append (id_octets id) (problem_octets why), problem_long why, id_long id)

@@ -1,7 +1,7 @@
 -- An element that was read writes back. Assumes nothing.
-use Rattle.std.proofs.Common.{◌≡◌, ℕ, ◌+◌, ◌≤◌, true, List, [], ◌∷◌, length, get_or, drop, IfOk, Some, None, Ok, Err, Option, Result, sym, refl, ap, ◌∙◌, subst, ⊎_elim, arith}
+use Rattle.std.proofs.Common.{◌≡◌, ℕ, ◌+◌, ◌≤◌, true, Bool, cond, List, [], ◌∷◌, length, get_or, drop, IfOk, None, Ok, Err, Option, Result, sym, refl, ap, ◌∙◌, subst, arith}
 use Rattle.std.proofs.ByRecursion.{All-drop}
-use Rattle.std.proofs.lemmas.Bool.{cond-true, cond-false, cases_Bool, and_from, eq-eqb}
+use Rattle.std.proofs.lemmas.Bool.{and_from, eq-eqb}
 use Rattle.std.proofs.lemmas.Bool.Decides.{nat_tests}
 use Rattle.components.specs.declared.fault.Cause.TheVariants.{Tag}
 use Rattle.components.specs.declared.fault.Fault.{Fault}
@@ -37,13 +37,12 @@ pub record Reads (xs : List ℕ) (s : Said) : Type 0 where
   pub typed : by_tag (tag (drop 3 xs)) (3 + length (drop 3 xs)) (values 5 (drop 2 (drop 3 xs))) ≡ Ok s
 
 -- no fault, and what was read then
-unless_parts : (o : Option Fault) (r : Result Said Fault) (s : Said) → unless o r ≡ Ok s → (o ≡ None) × (r ≡ Ok s)
-unless_parts None r s h = (refl, h)
-unless_parts (Some f) r s h = let no : ◌≡◌ {A = ℕ} 0 1 = cc in absurd (omega arith)
-
 pub structured_parts : (o : Option ℕ) (r : Result Said Fault) (s : Said) → structured o r ≡ Ok s → (o ≡ None) × (r ≡ Ok s)
-structured_parts None r s h = (refl, h)
-structured_parts (Some p) r s h = let no : ◌≡◌ {A = ℕ} 0 1 = cc in absurd (omega arith)
+structured_parts o r s h = grind arith
+
+read_parts : (head : Option Fault) (known : Bool) (o : Option ℕ) (r : Result Said Fault) (s : Said) → unless head (cond known (structured o r) (Err (at Tag 3))) ≡ Ok s
+    → (head ≡ None) × (known ≡ true) × (structured o r ≡ Ok s)
+read_parts head known o r s h = grind arith
 
 -- reading, taken apart
 pub reads_parts : (xs : List ℕ) (s : Said) → reading xs ≡ Ok s → Reads xs s
@@ -51,22 +50,24 @@ unfolding reading reading_component
 reads_parts xs s is =
     let ys = drop 3 xs in
     let typed = by_tag (tag ys) (3 + length ys) (values 5 (drop 2 ys)) in
-    let head = unless_parts (head_fault xs) (reading_component ys) s is in
-    ⊎_elim
-    (λ known.
-    let parts = structured_parts (bad_component ys) typed s (sym (cond-true (is_component_tag (tag ys)) (structured (bad_component ys) typed) (Err (at Tag 3)) known) ∙ head.1) in
-    record { head = head.0; known = known; well = parts.0; typed = parts.1 })
-    (λ other. let e = sym (cond-false (is_component_tag (tag ys)) (structured (bad_component ys) typed) (Err (at Tag 3)) other) ∙ head.1 in let no : ◌≡◌ {A = ℕ} 0 1 = cc in absurd (omega arith))
-    (cases_Bool (is_component_tag (tag ys)))
+    let p = read_parts (head_fault xs) (is_component_tag (tag ys)) (bad_component ys) typed s is in
+    let t = structured_parts (bad_component ys) typed s p.2 in
+    record { head = p.0; known = p.1; well = t.0; typed = t.1 }
 
 -- an element is its head and what stands behind it
 head_is : (xs : List ℕ) → Head xs → xs ≡ tagged 0x1c (0x91 ∷ drop 3 xs)
-head_is [] h = absurd (omega (arith, h.some))
-head_is (a ∷ []) h = absurd (omega (arith, h.some))
-head_is (a ∷ b ∷ []) h = absurd (omega (arith, h.some))
-head_is (a ∷ b ∷ c ∷ xs) h =
-    let count : b ≡ length (0x91 ∷ xs) = omega (arith, h.counted) in
-    ap (λ x. x ∷ b ∷ c ∷ xs) h.identifier ∙ ap (λ x. 0x1c ∷ b ∷ x ∷ xs) h.profile ∙ ap (λ x. 0x1c ∷ x ∷ 0x91 ∷ xs) count
+head_is xs h =
+    let some = h.some in
+    let identifier = h.identifier in
+    let counted = h.counted in
+    let profile = h.profile in
+    by xs some identifier counted profile
+  where
+    by : (xs : List ℕ) → 3 ≤ length xs → get_or xs 0 0 ≡ 0x1c → get_or xs 1 0 + 2 ≡ length xs → get_or xs 2 0 ≡ 0x91 → xs ≡ tagged 0x1c (0x91 ∷ drop 3 xs)
+    by [] some identifier counted profile = grind arith
+    by (a ∷ []) some identifier counted profile = grind arith
+    by (a ∷ b ∷ []) some identifier counted profile = grind arith
+    by (a ∷ b ∷ c ∷ xs) some identifier counted profile = grind arith
 
 -- what was read has its octets again, and its parameter where it lay
 pub read_writes : (xs : List ℕ) (s : Said) → Octets xs → reading xs ≡ Ok s → (encoded s ≡ xs) × (placed s ≡ s)

@@ -1,8 +1,10 @@
 pub mod Component
 pub mod Faults
 pub mod Typed
+pub mod Structured
 pub mod Cursor
 pub mod Reading
 pub mod Writing
-pub mod Layout
+pub mod Contents
 pub mod Message
+pub mod Wording

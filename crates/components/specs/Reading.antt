@@ -1,6 +1,8 @@
 -- Reading an element: lower causes go first, over the whole element. Assumes nothing.
 use Rattle.std.specs.Prelude.{ℕ, ◌+◌, Bool, cond, not, ◌&&◌, ◌||◌, List, length, drop, Some, None, Ok, Err, Option, Result, ◌==◌, nat_le, nat_lt, slice_index}
 use Rattle.components.specs.declared.component.Component.{Component}
+use Rattle.components.specs.declared.kind.Kind.{Kind}
+use Rattle.components.specs.declared.kind.Kind.TheVariants as kind
 use Rattle.components.specs.declared.fault.Cause.TheVariants.{Count, Identifier, Length, Profile, Tag, Structure}
 use Rattle.components.specs.declared.fault.Fault.{Fault}
 use Rattle.components.specs.Component.{Said, said}
@@ -26,7 +28,14 @@ abbrev pub structured : Option ℕ → Result Said Fault → Result Said Fault
 structured (Some place) typed = Err (at Structure place)
 structured None typed = typed
 
--- A1 invoke, A2 return result, A3 return error, A4 reject
+-- the tag of each kind: A1 invoke, A2 return result, A3 return error, A4 reject
+abbrev pub kind_tag : Kind → ℕ
+kind_tag kind.Invoke = 0xa1
+kind_tag kind.ReturnResult = 0xa2
+kind_tag kind.ReturnError = 0xa3
+kind_tag kind.Reject = 0xa4
+
+-- one of these
 abbrev pub is_component_tag : ℕ → Bool
 is_component_tag t = nat_le 0xa1 t && nat_le t 0xa4
 

@@ -46,8 +46,11 @@ abbrev pub an_integer : Part → Option ℤ
 an_integer v = as_integer v.octets
 
 -- an INTEGER, or NULL: 05 00
+abbrev pub as_integer_or_null : List ℕ → Option (Option ℤ)
+as_integer_or_null xs = cond (is_tagged 5 xs && length xs == 2) (Some None) (option_map Some (as_integer xs))
+
 abbrev pub integer_or_null : Part → Option (Option ℤ)
-integer_or_null v = cond (is_tagged 5 v.octets && length v.octets == 2) (Some None) (option_map Some (an_integer v))
+integer_or_null v = as_integer_or_null v.octets
 
 -- the one octet of contents of a value with the tag t
 abbrev pub code_under : ℕ → List ℕ → Option ℕ
@@ -80,20 +83,22 @@ integer_and_value (v ∷ w ∷ u ∷ us) = None
 abbrev pub an_answer : Part → Option (ℤ × Part)
 an_answer v = cond (is_tagged 0x30 v.octets) (integer_and_value (values (v.place + 2) (drop 2 v.octets))) None
 
+-- two INTEGERs, and at most one value behind them, of any type
+abbrev pub two_integers : ℕ → List Part → Result (ℤ × ℤ × Option Part) Fault
+two_integers end vs =
+    and_then (first an_integer end vs) (λ a. and_then (first an_integer end a.1) (λ b.
+    and_then (at_most_one any b.1) (λ value. Ok (a.0, b.0, value))))
+
 -- the four components, by the values that each has
 abbrev pub an_invoke : ℕ → List Part → Result Said Fault
-an_invoke end vs =
-    and_then (first an_integer end vs) (λ id. and_then (first an_integer end id.1) (λ operation.
-    and_then (at_most_one any operation.1) (λ argument. Ok (invoke id.0 operation.0 argument))))
+an_invoke end vs = and_then (two_integers end vs) (λ p. Ok (invoke p.0 p.1 p.2))
 
 abbrev pub a_result : ℕ → List Part → Result Said Fault
 a_result end vs =
     and_then (first an_integer end vs) (λ id. and_then (at_most_one an_answer id.1) (λ answer. Ok (result id.0 answer)))
 
 abbrev pub an_error : ℕ → List Part → Result Said Fault
-an_error end vs =
-    and_then (first an_integer end vs) (λ id. and_then (first an_integer end id.1) (λ code.
-    and_then (at_most_one any code.1) (λ parameter. Ok (error id.0 code.0 parameter))))
+an_error end vs = and_then (two_integers end vs) (λ p. Ok (error p.0 p.1 p.2))
 
 abbrev pub a_reject : ℕ → List Part → Result Said Fault
 a_reject end vs =

@@ -3,11 +3,13 @@
 ghost use Rattle.std.specs.Prelude.{◌≡◌};
 ghost use Rattle.std.specs.Option.{option_map};
 ghost use Rattle.components.specs.Component.{reject};
-ghost use Rattle.components.specs.Faults.{cause_number, layer_of};
+ghost use Rattle.components.specs.Faults.{at, cause_number, layer_of};
+ghost use Rattle.components.specs.declared.fault.Cause.TheVariants.{Structure};
 ghost use Rattle.components.specs.Message.{message_octets, rejection, reply_octets};
 
 use crate::component::Problem;
 use crate::message::{Message, reject_message};
+use ber::BadValue;
 
 // The layer of the protocol that is at fault.
 #[derive(Clone, Copy)]
@@ -18,7 +20,7 @@ pub enum Layer {
 }
 
 // What is wrong. The last two know the invoke id, to which the reply refers.
-#[derive(Clone, Copy)]
+#[derive(Clone, Copy, Debug)]
 pub enum Cause {
     // fewer than 3 or more than 132 octets
     Count,
@@ -43,13 +45,14 @@ pub enum Cause {
 }
 
 // A cause, and the place that is at fault, counted in octets from the start of the element.
-#[derive(Clone, Copy)]
+#[derive(Clone, Copy, Debug)]
 pub struct Fault {
     pub cause: Cause,
     pub place: usize,
 }
 
 impl Cause {
+    // By a match, and no numbers of the enum's own: two causes carry an id, and one number stands for two causes.
     pub fn number(self) -> u8
         ensures { result ≡ cause_number self }
     {
@@ -76,7 +79,34 @@ impl Cause {
             Cause::NoInvoke | Cause::Operation { .. } | Cause::Argument { .. } => Layer::Argument,
         }
     }
+
+    // The fault of this cause at a place.
+    pub fn at(self, place: usize) -> Fault
+        ensures { result ≡ at self place }
+    {
+        Fault { cause: self, place }
+    }
 }
+
+// A badly structured value is at fault in its component.
+impl From<BadValue> for Fault {
+    ghost from_gives = { λ bad fault. fault ≡ at Structure bad.place };
+
+    fn from(bad: BadValue) -> Fault {
+        Cause::Structure.at(bad.place)
+    }
+}
+
+// The codes of the problems that a reply names: general ones, and those of an invoke.
+const UNRECOGNIZED: u8 = 0;
+
+const MISTYPED: u8 = 1;
+
+const BADLY_STRUCTURED: u8 = 2;
+
+const UNRECOGNIZED_OPERATION: u8 = 1;
+
+const MISTYPED_ARGUMENT: u8 = 2;
 
 impl Cause {
     // The invoke id and the problem of the reject that answers the cause; none for the element layer, and without an invoke.
@@ -84,11 +114,11 @@ impl Cause {
         ensures { option_map (λ p. reject p.0 p.1) result ≡ rejection self }
     {
         match self {
-            Cause::Tag => Some((None, Problem::General(0))),
-            Cause::Structure => Some((None, Problem::General(2))),
-            Cause::Mistyped => Some((None, Problem::General(1))),
-            Cause::Operation { id } => Some((Some(id), Problem::Invoke(1))),
-            Cause::Argument { id } => Some((Some(id), Problem::Invoke(2))),
+            Cause::Tag => Some((None, Problem::General(UNRECOGNIZED))),
+            Cause::Structure => Some((None, Problem::General(BADLY_STRUCTURED))),
+            Cause::Mistyped => Some((None, Problem::General(MISTYPED))),
+            Cause::Operation { id } => Some((Some(id), Problem::Invoke(UNRECOGNIZED_OPERATION))),
+            Cause::Argument { id } => Some((Some(id), Problem::Invoke(MISTYPED_ARGUMENT))),
             _ => None,
         }
     }

@@ -5,7 +5,7 @@ mod reject;
 
 pub(crate) use reject::reject_message;
 
-// Up to 23 octets.
+// Up to 23 octets. An array with a length beside it: a message is `Copy`, which an `ArrayVec` is not, and callers may rely on it.
 #[derive(Clone, Copy)]
 pub struct Message {
     octets: [u8; 23],

@@ -1,4 +1,3 @@
-pub mod Appending
 pub mod Cutting
 pub mod Reading
 pub mod Standing

@@ -1,24 +1,22 @@
 -- The lines that account for an element: what it says, or its fault. Assumes nothing.
-use Rattle.std.specs.Prelude.{ℕ, List, [], ◌++◌, Ok, Err, codes, Option, Result}
+use Rattle.std.specs.Prelude.{ℕ, List, [], ◌++◌, Some, None, Ok, Err, codes, Option, Result}
 use Rattle.components.specs.Component.{Said, invoke, result, error, reject}
-use Rattle.components.specs.Faults.{cause_number, layer_of}
 use Rattle.components.specs.Message.{reply_octets}
 use Rattle.components.specs.Reading.{reading}
+use Rattle.components.specs.Wording.{pairs, component_text, fault_text}
 use Rattle.components.specs.declared.fault.Fault.{Fault}
 use Rattle.facility.specs.Requests.{requesting}
+use Rattle.facility.specs.Wording.{request_text}
 use Rattle.facility.specs.declared.request.RequestInvoke.{RequestInvoke}
-use Rattle.decode.specs.Wording.{optional_text, pairs, component_text, request_text, fault_text}
-
--- a fault without its reply
-abbrev pub cause_account : Fault → List ℕ
-cause_account f = fault_text (cause_number f.cause) f.place (layer_of f.cause)
 
 -- the octets of a reply, if there is one
 abbrev pub reply_account : Option (List ℕ) → List ℕ
-reply_account reply = optional_text (λ octets. codes " reply" ++ pairs octets) reply
+reply_account None = []
+reply_account (Some octets) = codes " reply" ++ pairs octets
 
+-- a fault and its reply
 abbrev pub fault_account : Fault → List ℕ
-fault_account f = cause_account f ++ reply_account (reply_octets f.cause)
+fault_account f = fault_text f ++ reply_account (reply_octets f.cause)
 
 abbrev pub request_account : Result RequestInvoke Fault → List ℕ
 request_account (Ok r) = request_text r.request

@@ -1,4 +1,3 @@
 pub mod Account
 pub mod Lines
 pub mod Spelling
-pub mod Wording

@@ -1,5 +1,5 @@
 -- Input cut into lines, and their answers, in order. Assumes nothing.
-use Rattle.std.specs.Prelude.{◌≡◌, ℕ, cond, List, [], ◌∷◌, ◌++◌, Some, None, vec_items, codes, Option, ◌==◌}
+use Rattle.std.specs.Prelude.{◌≡◌, ℕ, cond, List, [], ◌∷◌, ◌++◌, Some, None, vec_items, string_bytes, codes, OnOk, Option, Result, ◌==◌}
 use Rattle.std.specs.List.{flat_map}
 use Rattle.decode.specs.declared.decoder.Decoder.{Decoder}
 use Rattle.decode.specs.Account.{account}
@@ -33,8 +33,12 @@ line_answers lines = flat_map line_answer lines
 abbrev pub input_lines : List ℕ → List (List ℕ)
 input_lines input = ended [] input ++ going_on [] input ∷ []
 
+-- `text` was added behind what stood there, where nothing failed
+abbrev pub Adds : {X Y : Type 0} → Result X Y → List ℕ → List ℕ → List ℕ → Type 0
+Adds r was is text = OnOk r (is ≡ was ++ text)
+
 -- where a run stands behind `input`, however it came in blocks: the line that goes on is kept, and each line that ended is
 -- answered, in what is already written or in the answers that are not
 pub record Stands (input written : List ℕ) (d : Decoder) : Type 0 where
   pub keeps : vec_items d.line ≡ going_on [] input
-  pub tells : written ++ vec_items d.answers ≡ line_answers (ended [] input)
+  pub tells : written ++ string_bytes d.answers ≡ line_answers (ended [] input)

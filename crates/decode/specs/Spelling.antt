@@ -1,7 +1,7 @@
 -- Which octets a line of hex pairs spells. Assumes nothing.
-use Rattle.std.specs.Prelude.{◌≡◌, ℕ, ◌+◌, ◌-◌, ◌*◌, ◌<◌, Bool, cond, ◌&&◌, ◌||◌, List, [], ◌∷◌, length, Some, None, Option, ◌==◌, nat_le}
-use Rattle.decode.specs.declared.hex.Content.{Content}
-use Rattle.decode.specs.declared.hex.Content.TheVariants.{Blank, Octets, NotOctets}
+use Rattle.std.specs.Prelude.{◌≡◌, ℕ, ◌+◌, ◌-◌, ◌*◌, Bool, cond, ◌&&◌, ◌||◌, List, [], ◌∷◌, Some, None, Ok, Err, Option, Result, ◌==◌, nat_le}
+use Rattle.decode.specs.declared.hex.HexError.{HexError}
+use Rattle.decode.specs.declared.hex.HexError.TheVariants.{NotOctets, OutOfMemory}
 
 -- space, tab and carriage return
 abbrev pub is_white : ℕ → Bool
@@ -35,8 +35,8 @@ spelled [] = Some []
 spelled (a ∷ []) = cond (is_white a) (Some []) None
 spelled (a ∷ b ∷ bs) = cond (is_white a) (spelled (b ∷ bs)) (before (pair_value a b) (spelled bs))
 
--- what a reading says of a line that spells `s`, with the octets `os` in its memory
-abbrev pub Reads : Option (List ℕ) → Content → List ℕ → Type 0
-Reads s Blank os = s ≡ Some []
-Reads s Octets os = (s ≡ Some os) × (0 < length os)
-Reads s NotOctets os = s ≡ None
+-- what a reading says of a line that spells `s`, with the octets `os` in its memory; where memory ran out, nothing
+abbrev pub Reads : Option (List ℕ) → Result (Unit {0}) HexError → List ℕ → Type 0
+Reads s (Ok done) os = s ≡ Some os
+Reads s (Err NotOctets) os = s ≡ None
+Reads s (Err OutOfMemory) os = Unit {0}

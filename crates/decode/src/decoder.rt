@@ -1,55 +1,49 @@
 // Cuts input into lines, and answers each.
-ghost use Rattle.std.specs.Prelude.{◌≡◌, ℕ, ◌<◌, ◌≤◌, List, [], ◌++◌, length, OnOk, ◌≢◌, slice_index};
-ghost use Rattle.decode.specs.Lines.{ended, going_on, line_answer, line_answers, input_lines, Stands};
-ghost use Rattle.decode.specs.Wording.{Adds};
+ghost use Rattle.std.specs.Prelude.{◌≡◌, ℕ, List, [], ◌++◌, ◌==◌, OnOk, position, string_bytes};
+ghost use Rattle.decode.specs.Lines.{Adds, ended, going_on, line_answer, line_answers, input_lines, Stands};
 
-use crate::account::{push_account, push_word};
-use crate::hex::{Content, read_octets};
+use crate::account::Account;
+use crate::hex::{HexError, read_octets};
 use std::alloc::{AllocError, Global};
 
 // The line that goes on behind the input so far, memory for a line's octets, and the answers that are not yet written.
+// The clauses `run` name the input and what was written of its answers, since neither is kept in memory.
 #[derive(Drop)]
 pub struct Decoder {
     line: Vec<u8>,
     octets: Vec<u8>,
-    answers: Vec<u8>,
+    answers: String,
 }
 
-// How many bytes stand before the first line feed, or in all where there is none.
-fn line_length(bytes: &[u8]) -> usize
-    ensures within { result ≤ length bytes.now }
-    ensures before { (k : ℕ) → k < result → slice_index bytes.now k ≢ 10 }
-    ensures found { result < length bytes.now → slice_index bytes.now result ≡ 10 }
+// The index of the first line feed.
+fn line_feed(bytes: &[u8]) -> Option<usize>
+    ensures { result ≡ position (λ b. b == 10) bytes.now }
 {
-    for (i, byte) in bytes.iter().enumerate() {
-        if *byte == b'\n' {
-            return i;
-        }
-    }
-    bytes.len()
+    bytes.iter().position(|byte| *byte == b'\n')
 }
 
 // Adds the answer to a line.
-fn answer(line: &[u8], octets: &mut Vec<u8>, answers: &mut Vec<u8>) -> Result<(), AllocError>
-    ensures { Adds result answers.old.items answers.new.items (line_answer line.now) }
+fn answer(line: &[u8], octets: &mut Vec<u8>, answers: &mut String) -> Result<(), AllocError>
+    ensures { Adds result (string_bytes answers.old) (string_bytes answers.new) (line_answer line.now) }
 {
-    match read_octets(line, octets)? {
-        Content::Blank => Ok(()),
-        Content::Octets => push_account(answers, octets.as_slice()),
-        Content::NotOctets => push_word(answers, "not octets\n"),
+    match read_octets(line, octets) {
+        Ok(()) if octets.is_empty() => Ok(()),
+        Ok(()) => writeln!(answers, "{}", Account(octets.as_slice())),
+        Err(HexError::NotOctets) => writeln!(answers, "not octets"),
+        Err(HexError::OutOfMemory) => Err(AllocError),
     }
 }
 
 impl Decoder {
     pub fn new(heap: Global) -> Decoder
         ensures kept { result.line.items ≡ [] }
-        ensures answered { result.answers.items ≡ [] }
+        ensures answered { string_bytes result.answers ≡ [] }
         ensures run { Stands [] [] result }
     {
         Decoder {
             line: Vec::new(heap),
             octets: Vec::new(heap),
-            answers: Vec::new(heap),
+            answers: String::new(heap),
         }
     }
 
@@ -57,24 +51,22 @@ impl Decoder {
     // difference.
     pub fn take_block(&mut self, block: &[u8]) -> Result<(), AllocError>
         ensures kept { OnOk result (self.new.line.items ≡ going_on self.old.line.items block.now) }
-        ensures answered { Adds result self.old.answers.items self.new.answers.items (line_answers (ended self.old.line.items block.now)) }
+        ensures answered { Adds result (string_bytes self.old.answers) (string_bytes self.new.answers) (line_answers (ended self.old.line.items block.now)) }
         ensures run { OnOk result ((input written : List ℕ) → Stands input written self.old → Stands (input ++ block.now) written self.new) }
     {
         let mut rest = block;
-        loop {
-            let end = line_length(rest);
-            if end == rest.len() {
-                return self.line.extend_from_slice(rest);
-            }
-            self.end_line(&rest[0..end])?;
+        // By hand: `split` does not say whether the last line ended, and `split_inclusive` leaves each line feed to be taken off.
+        while let Some(end) = line_feed(rest) {
+            self.end_line(&rest[..end])?;
             rest = &rest[end + 1..];
         }
+        self.line.extend_from_slice(rest)
     }
 
     // Answers the line that ends with these bytes.
     fn end_line(&mut self, bytes: &[u8]) -> Result<(), AllocError>
         ensures kept { OnOk result (self.new.line.items ≡ []) }
-        ensures answered { Adds result self.old.answers.items self.new.answers.items (line_answer (self.old.line.items ++ bytes.now)) }
+        ensures answered { Adds result (string_bytes self.old.answers) (string_bytes self.new.answers) (line_answer (self.old.line.items ++ bytes.now)) }
     {
         if self.line.is_empty() {
             return answer(bytes, &mut self.octets, &mut self.answers);
@@ -86,8 +78,8 @@ impl Decoder {
     // Answers the line that the input ends with.
     pub fn end(&mut self) -> Result<(), AllocError>
         ensures kept { OnOk result (self.new.line.items ≡ []) }
-        ensures answered { Adds result self.old.answers.items self.new.answers.items (line_answer self.old.line.items) }
-        ensures run { OnOk result ((input written : List ℕ) → Stands input written self.old → written ++ self.new.answers.items ≡ line_answers (input_lines input)) }
+        ensures answered { Adds result (string_bytes self.old.answers) (string_bytes self.new.answers) (line_answer self.old.line.items) }
+        ensures run { OnOk result ((input written : List ℕ) → Stands input written self.old → written ++ string_bytes self.new.answers ≡ line_answers (input_lines input)) }
     {
         answer(self.line.as_slice(), &mut self.octets, &mut self.answers)?;
         self.line.clear();
@@ -95,16 +87,16 @@ impl Decoder {
     }
 
     pub fn answers(&self) -> &[u8]
-        ensures { result.now ≡ self.now.answers.items }
+        ensures { result.now ≡ string_bytes self.now.answers }
     {
-        self.answers.as_slice()
+        self.answers.as_bytes()
     }
 
     // Makes room for more answers, once these are written.
     pub fn forget_answers(&mut self)
         ensures kept { self.new.line ≡ self.old.line }
-        ensures answered { self.new.answers.items ≡ [] }
-        ensures run { (input written : List ℕ) → Stands input written self.old → Stands input (written ++ self.old.answers.items) self.new }
+        ensures answered { string_bytes self.new.answers ≡ [] }
+        ensures run { (input written : List ℕ) → Stands input written self.old → Stands input (written ++ string_bytes self.old.answers) self.new }
     {
         self.answers.clear();
     }

@@ -1,34 +1,36 @@
 // A line of hex pairs, read as octets.
-ghost use Rattle.std.specs.Prelude.{◌≡◌, IfOk};
+ghost use Rattle.std.specs.Prelude.{◌≡◌};
 ghost use Rattle.decode.specs.Spelling.{is_white, hex_value, pair_value, spelled, Reads};
+ghost use Rattle.decode.specs.declared.hex.HexError.TheVariants.{OutOfMemory};
 
-use std::alloc::AllocError;
+use std::alloc::AllocFailed;
 
-// What a line holds.
-#[derive(Clone, Copy)]
-pub enum Content {
-    // white space only
-    Blank,
-    Octets,
+// Why a line is not read.
+#[derive(Clone, Copy, Debug)]
+pub enum HexError {
     NotOctets,
+    OutOfMemory,
+}
+
+impl<T: Drop> From<AllocFailed<T>> for HexError {
+    ghost from_gives = { λ _ e. e ≡ OutOfMemory };
+
+    fn from(_error: AllocFailed<T>) -> HexError {
+        HexError::OutOfMemory
+    }
 }
 
 fn is_white(byte: u8) -> bool
     ensures { result ≡ is_white byte }
 {
-    byte == b' ' || byte == b'\t' || byte == b'\r'
+    matches!(byte, b' ' | b'\t' | b'\r')
 }
 
 // The value of a hex digit, in either case.
-fn digit(byte: u8) -> Option<u8>
+fn digit(byte: u8) -> Option<u32>
     ensures { result ≡ hex_value byte }
 {
-    match byte {
-        b'0'..=b'9' => Some(byte - b'0'),
-        b'A'..=b'F' => Some(byte - b'A' + 10),
-        b'a'..=b'f' => Some(byte - b'a' + 10),
-        _ => None,
-    }
+    char::from(byte).to_digit(16)
 }
 
 // The octet that two hex digits spell.
@@ -37,32 +39,22 @@ fn pair(high: u8, low: u8) -> Option<u8>
 {
     let high = digit(high)?;
     let low = digit(low)?;
-    Some(16 * high + low)
+    // Two digits below 16 make a number below 256.
+    Some((16 * high + low) as u8)
 }
 
 // Reads the line's octets into lent memory, in place of what it held. White space may stand around a pair, not inside it.
-pub fn read_octets(line: &[u8], octets: &mut Vec<u8>) -> Result<Content, AllocError>
-    ensures { IfOk result (λ content. Reads (spelled line.now) content octets.new.items) }
+pub fn read_octets(line: &[u8], octets: &mut Vec<u8>) -> Result<(), HexError>
+    ensures { Reads (spelled line.now) result octets.new.items }
 {
     octets.clear();
-    let mut rest = line;
-    while let [first, behind @ ..] = rest {
+    let mut bytes = line.iter();
+    while let Some(first) = bytes.next() {
         if is_white(*first) {
-            rest = behind;
             continue;
         }
-        let [second, behind @ ..] = behind else {
-            return Ok(Content::NotOctets);
-        };
-        let Some(octet) = pair(*first, *second) else {
-            return Ok(Content::NotOctets);
-        };
-        octets.push(octet)?;
-        rest = behind;
+        let second = bytes.next().ok_or(HexError::NotOctets)?;
+        octets.push(pair(*first, *second).ok_or(HexError::NotOctets)?)?;
     }
-    Ok(if octets.is_empty() {
-        Content::Blank
-    } else {
-        Content::Octets
-    })
+    Ok(())
 }

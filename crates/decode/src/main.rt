@@ -1,9 +1,10 @@
 // Answers each line of hex pairs, a Facility element, with what the element says, or with its fault.
 #![tactic(auto)]
 
+ghost use Rattle.std.specs.Prelude.{◌≤◌, length, IfOk};
+
 mod account;
 mod decoder;
-mod figures;
 mod hex;
 
 use decoder::Decoder;
@@ -13,20 +14,20 @@ use std::process::ExitCode;
 
 const BLOCK: usize = 65536;
 
-// Reads a block of input and answers its lines; false where the input has ended. An interrupted read is made again.
-fn read_block(input: &mut Stdin, block: &mut [u8], decoder: &mut Decoder) -> io::Result<bool> {
-    match input.read(block) {
-        Ok(0) => Ok(false),
-        Ok(n) => {
-            decoder.take_block(&block[0..n])?;
-            Ok(true)
+// More reads than any run makes: a loop has to be seen to end.
+const READS: u64 = u64::MAX;
+
+// Reads a block of input: how many octets it has, none where the input has ended. An interrupted read is made again.
+fn read_block(input: &mut Stdin, block: &mut [u8]) -> io::Result<usize>
+    ensures { IfOk result (λ count. count ≤ length block.old) }
+{
+    for _ in 0..READS {
+        match input.read(block) {
+            Err(e) if e.kind() == ErrorKind::Interrupted => {}
+            read => return read,
         }
-        Err(e) => if e.kind() == ErrorKind::Interrupted {
-            Ok(true)
-        } else {
-            Err(e)
-        },
     }
+    Err(ErrorKind::Interrupted.into())
 }
 
 // Writes the answers, and makes room for more.
@@ -40,10 +41,12 @@ fn run(rt: &HostRuntime) -> io::Result<()> {
     let mut block = vec![in rt.alloc(); 0; BLOCK]?;
     let mut decoder = Decoder::new(rt.alloc());
     let mut input = rt.stdin();
-    for _ in 0..u64::MAX {
-        if !read_block(&mut input, &mut block, &mut decoder)? {
+    for _ in 0..READS {
+        let count = read_block(&mut input, &mut block)?;
+        if count == 0 {
             break;
         }
+        decoder.take_block(&block[..count])?;
         write_answers(rt, &mut decoder)?;
     }
     decoder.end()?;

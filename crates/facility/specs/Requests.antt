@@ -1,7 +1,7 @@
 -- The conference requests: which invokes they are. Assumes nothing.
 use Rattle.std.specs.Prelude.{ℕ, ◌+◌, ◌≤◌, cond, ◌&&◌, List, [], ◌∷◌, ◌++◌, length, take, drop, ℤ, pos, negsuc, Some, None, Ok, Err, Option, Result, FitsSigned, ◌==◌, nat_le, slice_index}
 use Rattle.std.specs.Int.{w16}
-use Rattle.std.specs.Option.{option_map}
+use Rattle.std.specs.Option.{option_map, option_zip}
 use Rattle.components.specs.declared.fault.Cause.TheVariants as cause
 use Rattle.components.specs.declared.fault.Fault.{Fault}
 use Rattle.facility.specs.declared.request.Operation.{Operation}
@@ -9,7 +9,7 @@ use Rattle.facility.specs.declared.request.Operation.TheVariants as operation
 use Rattle.facility.specs.declared.request.Request.{Request}
 use Rattle.facility.specs.declared.request.Request.TheVariants as request
 use Rattle.facility.specs.declared.request.RequestInvoke.{RequestInvoke}
-use Rattle.components.specs.Component.{Said, invoke, result, error, reject}
+use Rattle.components.specs.Component.{Said, invoke}
 use Rattle.components.specs.Faults.{at}
 use Rattle.ber.specs.Integer.{integer_octets}
 use Rattle.components.specs.Reading.{reading}
@@ -25,15 +25,9 @@ number_octets n = tagged 2 (n ∷ [])
 abbrev pub a_number : List ℕ → Option ℕ
 a_number xs = cond (is_tagged 2 xs && (length xs == 3 && nat_le (slice_index xs 2) 127)) (Some (slice_index xs 2)) None
 
--- both, if both are there
-abbrev pub both : Option ℕ → Option ℕ → Option (ℕ × ℕ)
-both (Some a) (Some b) = Some (a, b)
-both (Some a) None = None
-both None b = None
-
 -- a SEQUENCE of two numbers
 abbrev pub two_numbers : List ℕ → Option (ℕ × ℕ)
-two_numbers xs = cond (is_tagged 0x30 xs && length xs == 8) (both (a_number (take 3 (drop 2 xs))) (a_number (drop 3 (drop 2 xs)))) None
+two_numbers xs = cond (is_tagged 0x30 xs && length xs == 8) (option_zip (a_number (take 3 (drop 2 xs))) (a_number (drop 3 (drop 2 xs)))) None
 
 -- the operations by their codes
 abbrev pub operation_of : ℤ → Option Operation
@@ -52,16 +46,12 @@ operation_of (pos n) =
 abbrev pub asks : Operation → Option (List ℕ) → Option Request
 asks operation.Begin None = Some (request.Begin None)
 asks operation.Begin (Some xs) = option_map (λ n. request.Begin (Some n)) (a_number xs)
-asks operation.Add None = None
 asks operation.Add (Some xs) = option_map request.Add (a_number xs)
-asks operation.Split None = None
 asks operation.Split (Some xs) = option_map (λ p. request.Split p.0 p.1) (two_numbers xs)
-asks operation.Drop None = None
 asks operation.Drop (Some xs) = option_map request.Drop (a_number xs)
-asks operation.Isolate None = None
 asks operation.Isolate (Some xs) = option_map request.Isolate (a_number xs)
-asks operation.Reattach None = None
 asks operation.Reattach (Some xs) = option_map request.Reattach (a_number xs)
+asks _ None = None
 
 -- the place of an argument, or of the component's end where it is absent
 abbrev pub argument_place : ℕ → Option Part → ℕ
@@ -84,9 +74,7 @@ by_operation end id argument None = Err (at (cause.Operation id) (5 + length (in
 -- a request is an invoke
 abbrev pub requested : ℕ → Said → Result RequestInvoke Fault
 requested end (invoke id code argument) = by_operation end id argument (operation_of code)
-requested end (result id answer) = Err (at cause.NoInvoke 3)
-requested end (error id code parameter) = Err (at cause.NoInvoke 3)
-requested end (reject id why) = Err (at cause.NoInvoke 3)
+requested end _ = Err (at cause.NoInvoke 3)
 
 -- the request that an element holds: faults of the element and of the component come first
 abbrev pub requesting : List ℕ → Result RequestInvoke Fault

@@ -5,8 +5,10 @@
 #![tactic(auto)]
 
 mod request;
+mod text;
 
 pub use components::{
-    Answer, Cause, Component, Fault, Layer, Message, Parameter, Problem, Refusal, read_element,
+    Answer, Cause, Component, Fault, Layer, Message, Pairs, Parameter, Problem, Refusal,
+    read_element,
 };
 pub use request::{Request, RequestInvoke, read_request};

@@ -1,14 +1,15 @@
 // The conference requests: six operations, each invoked with its own argument.
-ghost use Rattle.std.specs.Prelude.{◌≡◌, ◌≤◌, length, IfOk, Some, Ok, FitsSigned};
-ghost use Rattle.std.specs.Int.{w16};
+ghost use Rattle.std.specs.Prelude.{◌≡◌, length, IfOk, Ok};
 ghost use Rattle.std.specs.Option.{option_map};
+ghost use Rattle.std.specs.Result.{result_ok};
 ghost use Rattle.components.specs.Component.{part, said};
-ghost use Rattle.facility.specs.Requests.{a_number, two_numbers, operation_of, asks, octets_in, argument_place, requested, requesting, request_octets, Lawful};
+ghost use Rattle.facility.specs.Requests.{a_number, two_numbers, operation_of, asks, octets_in, requested, requesting, request_octets, Lawful};
+ghost use Rattle.components.specs.Writing.{encoded};
 
 use ber::integer_size;
 use components::{Cause, Component, Fault, Parameter, read_element};
 
-#[derive(Clone, Copy)]
+#[derive(Clone, Copy, Debug, PartialEq, Eq)]
 pub enum Request {
     // No size asks for the largest that the served user's level allows.
     Begin { size: Option<u8> },
@@ -20,7 +21,7 @@ pub enum Request {
 }
 
 // A request, with the invoke id that its reply refers to.
-#[derive(Clone, Copy)]
+#[derive(Clone, Copy, Debug, PartialEq, Eq)]
 pub struct RequestInvoke {
     pub id: i16,
     pub request: Request,
@@ -37,17 +38,47 @@ enum Operation {
     Reattach,
 }
 
-fn operation_of(code: i16) -> Option<Operation>
-    ensures { result ≡ operation_of code }
-{
-    match code {
-        40 => Some(Operation::Begin),
-        41 => Some(Operation::Add),
-        42 => Some(Operation::Split),
-        43 => Some(Operation::Drop),
-        44 => Some(Operation::Isolate),
-        45 => Some(Operation::Reattach),
-        _ => None,
+// The code of no operation.
+#[derive(Clone, Copy)]
+struct UnknownOperation;
+
+impl TryFrom<i16> for Operation {
+    type Error = UnknownOperation;
+
+    ghost try_from_gives = { λ code r. result_ok r ≡ operation_of code };
+
+    fn try_from(code: i16) -> Result<Self, UnknownOperation> {
+        match code {
+            40 => Ok(Operation::Begin),
+            41 => Ok(Operation::Add),
+            42 => Ok(Operation::Split),
+            43 => Ok(Operation::Drop),
+            44 => Ok(Operation::Isolate),
+            45 => Ok(Operation::Reattach),
+            _ => Err(UnknownOperation),
+        }
+    }
+}
+
+impl Operation {
+    // What the operation asks with its argument, which may be absent at begin alone; none where the argument is wrong.
+    fn asked(self, argument: Option<Parameter<'_>>) -> Option<Request>
+        ensures { result ≡ asks self (octets_in (option_map part argument.entry)) }
+    {
+        if let (Operation::Begin, None) = (self, argument) {
+            return Some(Request::Begin { size: None });
+        }
+        let octets = argument?.octets;
+        match self {
+            Operation::Begin => number(octets).map(|size| Request::Begin { size: Some(size) }),
+            Operation::Add => number(octets).map(|conference| Request::Add { conference }),
+            Operation::Split => {
+                two_numbers(octets).map(|(conference, party)| Request::Split { conference, party })
+            }
+            Operation::Drop => number(octets).map(|party| Request::Drop { party }),
+            Operation::Isolate => number(octets).map(|party| Request::Isolate { party }),
+            Operation::Reattach => number(octets).map(|party| Request::Reattach { party }),
+        }
     }
 }
 
@@ -56,7 +87,7 @@ fn number(octets: &[u8]) -> Option<u8>
     ensures { result ≡ a_number octets.now }
 {
     match octets {
-        [0x02, 0x01, n] if *n <= 127 => Some(*n),
+        [0x02, 0x01, n @ 0..=127] => Some(*n),
         _ => None,
     }
 }
@@ -68,59 +99,15 @@ fn two_numbers(octets: &[u8]) -> Option<(u8, u8)>
     let [0x30, 0x06, ids @ ..] = octets else {
         return None;
     };
-    if ids.len() != 6 {
-        return None;
-    }
-    let (conference, party) = ids.split_at(3);
-    let conference = number(conference)?;
-    let party = number(party)?;
-    Some((conference, party))
+    let (conference, party) = ids.split_at_checked(3)?;
+    Some((number(conference)?, number(party)?))
 }
 
-// What an operation asks with a value as its argument; none where the value is wrong.
-fn asked_with(operation: Operation, octets: &[u8]) -> Option<Request>
-    ensures { result ≡ asks operation (Some octets.now) }
-{
-    if let Operation::Split = operation {
-        let (conference, party) = two_numbers(octets)?;
-        return Some(Request::Split { conference, party });
-    }
-    let n = number(octets)?;
-    match operation {
-        Operation::Begin => Some(Request::Begin { size: Some(n) }),
-        Operation::Add => Some(Request::Add { conference: n }),
-        Operation::Split => None,
-        Operation::Drop => Some(Request::Drop { party: n }),
-        Operation::Isolate => Some(Request::Isolate { party: n }),
-        Operation::Reattach => Some(Request::Reattach { party: n }),
-    }
-}
-
-// The same where the argument may be absent, as it may at begin alone.
-fn asked(operation: Operation, argument: Option<Parameter<'_>>) -> Option<Request>
-    ensures { result ≡ asks operation (octets_in (option_map part argument.entry)) }
-{
-    match (operation, argument) {
-        (_, Some(value)) => asked_with(operation, value.octets),
-        (Operation::Begin, None) => Some(Request::Begin { size: None }),
-        (_, None) => None,
-    }
-}
-
-// The place of the argument, or of the component's end where there is none.
-fn place_of(argument: Option<Parameter<'_>>, end: usize) -> usize
-    ensures { result ≡ argument_place end (option_map part argument.entry) }
-{
-    match argument {
-        Some(parameter) => parameter.place,
-        None => end,
-    }
-}
-
-// The request that a component makes, or why it makes none; `end` is the place behind the component.
+// The request that a component makes, or why it makes none. The component begins at place 3 and its id at 5; `end` is the
+// place behind it.
 fn request_in(component: Component<'_>, end: usize) -> Result<RequestInvoke, Fault>
     ensures asks { result ≡ requested end (said component.entry) }
-    ensures sized { IfOk result (λ a. FitsSigned w16 a.id) }
+    ensures only { IfOk result (λ a. Lawful a × (encoded (said component.entry) ≡ request_octets a)) }
 {
     let Component::Invoke {
         id,
@@ -128,24 +115,13 @@ fn request_in(component: Component<'_>, end: usize) -> Result<RequestInvoke, Fau
         argument,
     } = component
     else {
-        return Err(Fault {
-            cause: Cause::NoInvoke,
-            place: 3,
-        });
+        return Err(Cause::NoInvoke.at(3));
     };
-    let Some(operation) = operation_of(operation) else {
-        return Err(Fault {
-            cause: Cause::Operation { id },
-            place: 5 + integer_size(id),
-        });
-    };
-    match asked(operation, argument) {
-        Some(request) => Ok(RequestInvoke { id, request }),
-        None => Err(Fault {
-            cause: Cause::Argument { id },
-            place: place_of(argument, end),
-        }),
-    }
+    let unknown = Cause::Operation { id }.at(5 + integer_size(id));
+    let operation = Operation::try_from(operation).map_err(|_| unknown)?;
+    let wrong = Cause::Argument { id }.at(argument.map_or(end, |value| value.place));
+    let request = operation.asked(argument).ok_or(wrong)?;
+    Ok(RequestInvoke { id, request })
 }
 
 // The request that an element holds, or the first fault. Each request is made by one element, and by no other.
@@ -154,6 +130,5 @@ pub fn read_request(octets: &[u8]) -> Result<RequestInvoke, Fault>
     ensures only { IfOk result (λ a. Lawful a × (octets.now ≡ request_octets a)) }
     ensures every { (a : RequestInvoke) → Lawful a → octets.now ≡ request_octets a → result ≡ Ok a }
 {
-    let component = read_element(octets)?;
-    request_in(component, octets.len())
+    request_in(read_element(octets)?, octets.len())
 }

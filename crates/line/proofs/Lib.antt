@@ -1,3 +1,2 @@
-pub mod OneTelling
 pub mod Times
 pub mod Hearing

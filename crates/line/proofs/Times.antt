@@ -1,45 +1,37 @@
 -- How many times a leg stands in a list, and what it then hears.
-use Rattle.std.proofs.Common.{◌≡◌, ℕ, zero, suc, ◌<◌, Bool, true, false, cond, eqb, List, [], ◌∷◌, length, get_or, sym, refl, ap, ◌∙◌, subst, arith}
+use Rattle.std.proofs.Common.{◌≡◌, ℕ, ◌+◌, Bool, true, false, cond, eqb, fold, add_comm, zero-add, List, [], ◌∷◌, get_or, refl, sym, ◌∙◌, add-one, arith}
+use Rattle.std.proofs.lemmas.Bool.{eq-eqb, ne_eqb}
 use Rattle.std.proofs.lemmas.List.{get_or_default}
-use Rattle.std.proofs.lemmas.Bool.{cond_both, cond-true, cond-false, eq-eqb, ne_eqb}
+use Rattle.std.proofs.lemmas.List.Sums.{sum_by-cons, get_or-le-sum_by, sum_by-le}
 use Rattle.line.specs.declared.notice.Notice.{Notice}
-use Rattle.line.specs.Meaning.{Standings, Hears}
+use Rattle.line.specs.declared.standing.Standing.{Standing}
+use Rattle.line.specs.Meaning.{Standings}
 use Rattle.line.specs.Notices.{after}
 use Rattle.line.specs.Telling.{times, Distinct, repeated, Once}
-use Rattle.line.proofs.OneTelling.{hears_at}
 
--- the first of a list is told: what is left then makes the whole, for each leg
-pub first_told : (k leg : ℕ) (legs : List ℕ) (notice : Notice) (s s' : Standings) → Hears leg notice s s' → repeated (times k legs) notice (s' k) ≡ repeated (times k (leg ∷ legs)) notice (s k)
-first_told k leg legs notice s s' h = ap (repeated (times k legs) notice) (hears_at k leg notice s s' h) ∙ either (eqb k leg) where
-  either : (b : Bool) → repeated (times k legs) notice (cond b (after notice (s k)) (s k)) ≡ repeated (cond b (suc (times k legs)) (times k legs)) notice (s k)
-  either true = refl
-  either false = refl
+-- the standing of a leg once a list was told, one after another
+abbrev pub hearing : ℕ → Notice → List ℕ → Standing → Standing
+hearing k notice legs s = fold (λ t leg. cond (eqb k leg) (after notice t) t) s legs
 
--- a leg that stands in a list stands there at least once
-times_listed : (legs : List ℕ) (k i : ℕ) → i < length legs → get_or legs i 0 ≡ k → 0 < times k legs
-times_listed [] k i h e = omega arith
-times_listed (leg ∷ legs) k zero h e =
-    subst (λ n. 0 < n) (sym (cond-true (eqb k leg) (suc (times k legs)) (times k legs) (eq-eqb k leg (sym e)))) (omega arith)
-times_listed (leg ∷ legs) k (suc i) h e =
-    let rest : 0 < times k legs = times_listed legs k i (omega arith) e in
-    cond_both (eqb k leg) (suc (times k legs)) (times k legs) (λ n. 0 < n) (λ _. omega arith) (λ _. rest)
-
--- one that does not stands there no time
-times_unlisted : (legs : List ℕ) (k : ℕ) → ((i : ℕ) → i < length legs → get_or legs i 0 ≡ k → ⊥) → times k legs ≡ 0
-times_unlisted [] k none = refl
-times_unlisted (leg ∷ legs) k none =
-    cond-false (eqb k leg) (suc (times k legs)) (times k legs) (ne_eqb k leg (λ e. none 0 (omega arith) (sym e)))
-    ∙ times_unlisted legs k (λ i h e. none (suc i) (omega arith) e)
+-- it hears the notice as many times as it stands in the list
+pub hearing_times : (k : ℕ) (notice : Notice) (legs : List ℕ) (s : Standing) → hearing k notice legs s ≡ repeated (times k legs) notice s
+hearing_times k notice [] s = refl
+hearing_times k notice (leg ∷ legs) s =
+    hearing_times k notice legs _ ∙ rw (sum_by-cons (λ x. cond (eqb k x) 1 0) leg legs) (either (eqb k leg))
+  where
+    either : (b : Bool) → repeated (times k legs) notice (cond b (after notice s) s) ≡ repeated (cond b 1 0 + times k legs) notice s
+    either true = rw (add_comm 1 (times k legs), add-one) refl
+    either false = rw zero-add refl
 
 -- where no leg stands in the list twice, each in it hears the notice once, and no other leg anything
-pub told_once : (legs : List ℕ) (notice : Notice) (s s' : Standings) → ((k : ℕ) → s' k ≡ repeated (times k legs) notice (s k)) → Distinct legs → Once legs notice s s'
+pub told_once : (legs : List ℕ) (notice : Notice) (s s' : Standings) → ((k : ℕ) → s' k ≡ hearing k notice legs (s k)) → Distinct legs → Once legs notice s s'
 told_once legs notice s s' heard distinct = record {
   listed = λ k has.
-      let some = times_listed legs k has.0 has.1 (sym (get_or_default legs has.0 k 0 has.1) ∙ has.2) in
-      let few = distinct k in
-      let one : times k legs ≡ 1 = omega arith in
-      heard k ∙ ap (λ n. repeated n notice (s k)) one;
+      let some = rw (eq-eqb k (get_or legs has.0 k) (sym has.2)) at (get_or-le-sum_by (λ leg. cond (eqb k leg) 1 0) legs has.0 k has.1) in
+      let one : times k legs ≡ 1 = omega (arith, distinct k) in
+      heard k ∙ hearing_times k notice legs (s k) ∙ rw one refl;
   unlisted = λ k hasn't.
-      let none : times k legs ≡ 0 = times_unlisted legs k (λ i h e. hasn't (i, h, get_or_default legs i k 0 h ∙ e)) in
-      heard k ∙ ap (λ n. repeated n notice (s k)) none;
+      let none = sum_by-le (λ leg. cond (eqb k leg) 1 0) 0 legs (λ i d lt. rw (ne_eqb k (get_or legs i d) (λ e. hasn't (i, lt, get_or_default legs i k d lt ∙ sym e))) (omega arith)) in
+      let never : times k legs ≡ 0 = omega arith in
+      heard k ∙ hearing_times k notice legs (s k) ∙ rw never refl;
 }

@@ -1,5 +1,5 @@
 -- Tellings and collections, and the standings that they lead to. Assumes nothing.
-use Rattle.std.specs.Prelude.{◌≡◌, ℕ, ◌≤◌, List, [], ◌∷◌, ◌++◌, map, Ok, Err, filter, Result, nat_eq}
+use Rattle.std.specs.Prelude.{◌≡◌, ℕ, ◌≤◌, List, [], ◌∷◌, ◌++◌, fold, map, Ok, Err, filter, Result, nat_eq}
 use Rattle.line.specs.declared.acts.Act.{Act}
 use Rattle.line.specs.declared.acts.Act.TheVariants.{Tell, Collect}
 use Rattle.line.specs.declared.acts.BothLines.{BothLines}
@@ -21,8 +21,7 @@ notices_to k ts = map (λ t. t.1) (filter (λ t. nat_eq k t.0) ts)
 
 -- the standing once notices are heard, one after another
 abbrev pub heard : List Notice → Standing → Standing
-heard [] s = s
-heard (notice ∷ notices) s = heard notices (after notice s)
+heard notices s = fold (λ s notice. after notice s) s notices
 
 -- the standing of each leg is what the notices told to it alone make of a new one
 abbrev pub Alone : List Telling → Standings → Type 0

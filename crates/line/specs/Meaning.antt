@@ -32,7 +32,8 @@ pub record Done (leg : ℕ) (notice : Notice) (s s' : Standings) (room room' : �
   pub falls : room' ≤ room
   pub by_one : room ≤ room' + 1
 
--- what a telling answers and leaves: a leg out of range is refused first, then a line without room, changing nothing
+-- what a telling answers and leaves: a leg out of range is refused first, then a line without room, changing nothing.
+-- The standings and rooms stay four arguments: each line gives the two apart, and a record would be built only to be opened
 abbrev pub Tells : ℕ → Notice → Standings → Standings → ℕ → ℕ → Result Unit Refusal → Type 0
 Tells leg notice s s' room room' (Ok _) = Done leg notice s s' room room'
 Tells leg notice s s' room room' (Err NoSuchLeg) = (Leg leg → ⊥) × Same s s' × (room' ≡ room)

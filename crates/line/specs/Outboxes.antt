@@ -1,5 +1,5 @@
 -- An outbox: the messages that wait in it, its standings and its room. Assumes nothing.
-use Rattle.std.specs.Prelude.{◌≡◌, ℕ, ◌-◌, ◌<◌, ◌≤◌, List, [], ◌∷◌, ◌++◌, length, take, Some, None, Ok, Err, Option, Result, slice_index_or}
+use Rattle.std.specs.Prelude.{◌≡◌, ℕ, ◌-◌, ◌<◌, ◌≤◌, List, [], ◌∷◌, ◌++◌, length, Some, None, Ok, Err, Option, Result, slice_index_or}
 use Rattle.line.specs.declared.meaning.Refusal.{Refusal}
 use Rattle.line.specs.declared.notice.Notice.{Notice}
 use Rattle.line.specs.declared.outbox.Outbox.{Outbox}
@@ -14,7 +14,7 @@ notify leg notice = leg ∷ 0x6e ∷ 0x27 ∷ 0x01 ∷ code_of notice ∷ []
 
 -- the messages that wait, the oldest first
 abbrev pub waiting : Outbox → List (List ℕ)
-waiting o = take o.count o.messages
+waiting o = o.messages.items
 
 abbrev pub outbox_standing : Outbox → ℕ → Standing
 outbox_standing o k = board_standing o.board k

@@ -1,5 +1,6 @@
 -- Telling one notice to a list of legs. Assumes nothing.
-use Rattle.std.specs.Prelude.{◌≡◌, ℕ, zero, suc, All, Contains, ◌+◌, ◌<◌, ◌≤◌, cond, List, [], ◌∷◌, length, Ok, Err, Result, ◌==◌}
+use Rattle.std.specs.Fn.{iterate}
+use Rattle.std.specs.Prelude.{◌≡◌, ℕ, All, Contains, ◌+◌, ◌<◌, ◌≤◌, List, count_by, length, Ok, Err, Result, ◌==◌}
 use Rattle.line.specs.declared.meaning.Refusal.{Refusal}
 use Rattle.line.specs.declared.meaning.Refusal.TheVariants.{NoSuchLeg, NoRoom}
 use Rattle.line.specs.declared.notice.Notice.{Notice}
@@ -9,8 +10,7 @@ use Rattle.line.specs.Notices.{after}
 
 -- how many times a leg stands in a list
 abbrev pub times : ℕ → List ℕ → ℕ
-times k [] = 0
-times k (leg ∷ legs) = cond (k == leg) (suc (times k legs)) (times k legs)
+times k legs = count_by (λ leg. k == leg) legs
 
 -- no leg stands in the list twice
 abbrev pub Distinct : List ℕ → Type 0
@@ -18,8 +18,7 @@ Distinct legs = (k : ℕ) → times k legs ≤ 1
 
 -- the standing once a notice is heard so many times
 abbrev pub repeated : ℕ → Notice → Standing → Standing
-repeated zero notice s = s
-repeated (suc n) notice s = repeated n notice (after notice s)
+repeated n notice s = iterate (after notice) n s
 
 -- all told: each leg hears the notice as many times as it stands in the list
 pub record EachDone (legs : List ℕ) (notice : Notice) (s s' : Standings) (room room' : ℕ) : Type 0 where

@@ -1,15 +1,15 @@
 // Tellings and collections, one after another, and what they leave on a line.
-ghost use Rattle.std.specs.Prelude.{◌≡◌, ◌<◌, length, slice_index_or};
-ghost use Rattle.line.specs.declared.acts.Act.TheVariants.{Collect};
-ghost use Rattle.line.specs.Acts.{CarriedOut, GoesOn, NewLines, BothGoOn};
+ghost use Rattle.std.specs.Prelude.{[]};
+ghost use Rattle.line.specs.Acts.{CarriedOut, GoesOn, Both, BothGoOn, NewLines};
 
 use crate::board::Board;
 use crate::meaning::{Line, Refusal};
 use crate::notice::Notice;
 use crate::outbox::Outbox;
 
-// What can be done to a line.
-#[derive(Clone, Copy)]
+// What can be done to a line. It stays data, and no closure, since the law of a run speaks of the list of acts that led to a
+// line.
+#[derive(Clone, Copy, PartialEq, Eq, Debug)]
 pub enum Act {
     Collect,
     Tell { leg: u8, notice: Notice },
@@ -17,7 +17,7 @@ pub enum Act {
 
 // Does one act on a line; a collection is never refused.
 fn tell_or_collect<L: Line>(line: &mut L, act: Act) -> Result<(), Refusal>
-    ensures { CarriedOut act (L.Line.standing line.old) (L.Line.standing line.new) (L.Line.room line.old) (L.Line.room line.new) result }
+    ensures { CarriedOut act (L.standing line.old) (L.standing line.new) (L.room line.old) (L.room line.new) result }
 {
     match act {
         Act::Collect => {
@@ -31,33 +31,36 @@ fn tell_or_collect<L: Line>(line: &mut L, act: Act) -> Result<(), Refusal>
 // Does one act on a line. Whatever acts led here since the line was new, with whatever answers, this one and its answer
 // carry them on: the standing of each leg stays what the notices told to it alone give.
 pub fn carry_out<L: Line>(line: &mut L, act: Act) -> Result<(), Refusal>
-    ensures done { CarriedOut act (L.Line.standing line.old) (L.Line.standing line.new) (L.Line.room line.old) (L.Line.room line.new) result }
-    ensures law { GoesOn act result (L.Line.standing line.old) (L.Line.standing line.new) (L.Line.room line.old) (L.Line.room line.new) }
+    ensures done { CarriedOut act (L.standing line.old) (L.standing line.new) (L.room line.old) (L.room line.new) result }
+    ensures law { GoesOn act result (L.standing line.old) (L.standing line.new) (L.room line.old) (L.room line.new) }
 {
     tell_or_collect(line, act)
 }
 
 // An outbox and a board on which the same was told.
-#[derive(Drop)]
+#[derive(PartialEq, Eq, Debug, Drop)]
 pub struct BothLines {
     pub outbox: Outbox,
     pub board: Board,
 }
 
-// The act at a place of a list.
-fn act_at(acts: &[Act], place: usize) -> Act
-    requires { place < length acts.now }
-    ensures { result ≡ slice_index_or acts.now place Collect }
-{
-    acts[place]
-}
+impl BothLines {
+    // New lines, on which nothing was done.
+    fn new() -> BothLines
+        ensures { Both [] result }
+    {
+        BothLines {
+            outbox: Outbox::new(),
+            board: Board::new(),
+        }
+    }
 
-// Does an act on the outbox and, unless it is refused there, on the board, which does not refuse it then.
-fn carry_out_on_both(lines: &mut BothLines, act: Act)
-    ensures { BothGoOn act lines.old lines.new }
-{
-    if carry_out(&mut lines.outbox, act).is_ok() {
-        let _ = carry_out(&mut lines.board, act);
+    // Does an act on the outbox and, unless it is refused there, on the board, which does not refuse it then.
+    fn carry_out(&mut self, act: Act) -> Result<(), Refusal>
+        ensures { BothGoOn act self.old self.new }
+    {
+        carry_out(&mut self.outbox, act)?;
+        carry_out(&mut self.board, act)
     }
 }
 
@@ -66,12 +69,9 @@ fn carry_out_on_both(lines: &mut BothLines, act: Act)
 pub fn on_new_lines(acts: &[Act]) -> BothLines
     ensures { NewLines acts.now result }
 {
-    let mut lines = BothLines {
-        outbox: Outbox::new(),
-        board: Board::new(),
-    };
-    for place in 0..acts.len() {
-        carry_out_on_both(&mut lines, act_at(acts, place));
+    let mut lines = BothLines::new();
+    for act in acts {
+        let _ = lines.carry_out(*act);
     }
     lines
 }

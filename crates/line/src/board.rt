@@ -1,14 +1,16 @@
 // A line that delivers nothing: it only keeps what each remote user has heard.
 ghost use Rattle.std.specs.Prelude.{◌≡◌, ℕ, replicate};
+ghost use Rattle.line.specs.Meaning.{Hears};
 ghost use Rattle.line.specs.Notices.{fresh};
 ghost use Rattle.line.specs.Boards.{board_standing};
 
-use crate::meaning::{Line, Refusal, is_leg};
+use crate::leg::LegNumber;
+use crate::meaning::{Line, Refusal};
 use crate::notice::Notice;
 use crate::standing::Standing;
 
-// The standing of each leg, at the leg's number; the first stands for no leg and never changes.
-#[derive(Clone, Copy)]
+// The standing of each leg, at the leg's number, in memory of fixed size; the first stands for no leg and never changes.
+#[derive(Clone, Copy, PartialEq, Eq, Debug)]
 pub struct Board {
     standings: [Standing; 65],
 }
@@ -29,6 +31,14 @@ impl Board {
             standings: new_standings(),
         }
     }
+
+    // The remote user of a leg hears a notice.
+    pub(crate) fn hear(&mut self, leg: LegNumber, notice: Notice)
+        ensures { Hears leg.number notice (board_standing self.old) (board_standing self.new) }
+    {
+        let standing = &mut self.standings[usize::from(leg.number)];
+        *standing = standing.after(notice);
+    }
 }
 
 impl Line for Board {
@@ -37,11 +47,7 @@ impl Line for Board {
     ghost room = { λ _. 128 };
 
     fn tell(&mut self, leg: u8, notice: Notice) -> Result<(), Refusal> {
-        if !is_leg(leg) {
-            return Err(Refusal::NoSuchLeg);
-        }
-        let at = leg as usize;
-        self.standings[at] = self.standings[at].after(notice);
+        self.hear(LegNumber::try_from(leg)?, notice);
         Ok(())
     }
 
@@ -50,10 +56,8 @@ impl Line for Board {
     }
 
     fn standing(&self, leg: u8) -> Result<Standing, Refusal> {
-        if !is_leg(leg) {
-            return Err(Refusal::NoSuchLeg);
-        }
-        Ok(self.standings[leg as usize])
+        let leg = LegNumber::try_from(leg)?;
+        Ok(self.standings[usize::from(leg.number)])
     }
 
     fn collect(&mut self) {}

@@ -7,6 +7,7 @@
 
 mod acts;
 mod board;
+mod leg;
 mod meaning;
 mod notice;
 mod outbox;
@@ -15,7 +16,8 @@ mod telling;
 
 pub use acts::{Act, BothLines, carry_out, on_new_lines};
 pub use board::Board;
-pub use meaning::{Line, Refusal, is_leg};
+pub use leg::is_leg;
+pub use meaning::{Line, Refusal};
 pub use notice::Notice;
 pub use outbox::{Outbox, Waiting};
 pub use standing::{OwnNotice, Standing};

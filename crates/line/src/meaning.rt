@@ -1,38 +1,45 @@
 // What a line to the remote users means, whatever it is made of.
-ghost use Rattle.std.specs.Prelude.{◌≡◌, ℕ, ◌↔◌, IsTrue};
+ghost use Rattle.std.specs.Prelude.{◌≡◌, ℕ, Some};
 ghost use Rattle.line.specs.declared.standing.Standing.{Standing};
-ghost use Rattle.line.specs.Refusals.{refusal_number};
-ghost use Rattle.line.specs.Meaning.{Leg, Tells, Answers, Collects};
+ghost use Rattle.line.specs.Refusals.{refusal_number, refusal_text};
+ghost use Rattle.line.specs.Meaning.{Tells, Answers, Collects};
 
 use crate::notice::Notice;
 use crate::standing::Standing;
+use std::error::Error;
+use std::fmt;
 
-// Why a line did nothing.
+// Why a line did nothing, each with the number that it carries.
 #[derive(Clone, Copy, PartialEq, Eq, Debug)]
 pub enum Refusal {
     // a leg that is not 1 to 64
-    NoSuchLeg,
+    NoSuchLeg = 3,
     // no room for another notice before the next collection
-    NoRoom,
+    NoRoom = 6,
 }
 
 impl Refusal {
+    // The number that the refusal carries.
     pub fn number(self) -> u8
         ensures { result ≡ refusal_number self }
     {
-        match self {
-            Refusal::NoSuchLeg => 3,
-            Refusal::NoRoom => 6,
-        }
+        self as u8
     }
 }
 
-// Whether there is such a leg.
-pub fn is_leg(leg: u8) -> bool
-    ensures { IsTrue result ↔ Leg leg }
-{
-    1 <= leg && leg <= 64
+// The number, and the refusal in words.
+impl fmt::Display for Refusal {
+    ghost output = { λ refusal. Some (refusal_text refusal) };
+
+    fn fmt<W: fmt::Write>(&self, f: &mut fmt::Formatter<W>) -> fmt::Result {
+        f.write_str(match self {
+            Refusal::NoSuchLeg => "3: no such leg",
+            Refusal::NoRoom => "6: no room for another notice",
+        })
+    }
 }
+
+impl Error for Refusal {}
 
 // A line to the remote users, each reached by a leg from 1 to 64.
 pub trait Line {

@@ -2,22 +2,22 @@
 ghost use Rattle.std.specs.Prelude.{◌≡◌};
 ghost use Rattle.line.specs.Notices.{code_of};
 
-// The nine notices, in the order of their codes.
-#[derive(Clone, Copy)]
+// The nine notices, each with the octet that stands for it.
+#[derive(Clone, Copy, PartialEq, Eq, Debug)]
 pub enum Notice {
     // the hearer takes part in a conference
-    Established,
+    Established = 0xc2,
     // the hearer takes part in a call of two parties again
-    Disconnected,
-    OtherAdded,
+    Disconnected = 0xc3,
+    OtherAdded = 0xc4,
     // the hearer itself
-    Isolated,
+    Isolated = 0xc5,
     // the hearer itself
-    Reattached,
-    OtherIsolated,
-    OtherReattached,
-    OtherSplit,
-    OtherDisconnected,
+    Reattached = 0xc6,
+    OtherIsolated = 0xc7,
+    OtherReattached = 0xc8,
+    OtherSplit = 0xc9,
+    OtherDisconnected = 0xca,
 }
 
 impl Notice {
@@ -25,16 +25,6 @@ impl Notice {
     pub fn code(self) -> u8
         ensures { result ≡ code_of self }
     {
-        match self {
-            Notice::Established => 0xc2,
-            Notice::Disconnected => 0xc3,
-            Notice::OtherAdded => 0xc4,
-            Notice::Isolated => 0xc5,
-            Notice::Reattached => 0xc6,
-            Notice::OtherIsolated => 0xc7,
-            Notice::OtherReattached => 0xc8,
-            Notice::OtherSplit => 0xc9,
-            Notice::OtherDisconnected => 0xca,
-        }
+        self as u8
     }
 }

@@ -15,7 +15,7 @@ pub enum OwnNotice {
 
 // What a remote user has heard: its latest own notice, and the parties added less those gone since it heard that its
 // conference was established. The sum stops at -127 and 127.
-#[derive(Clone, Copy, PartialEq, Eq, Debug)]
+#[derive(Clone, Copy, PartialEq, Eq, Debug, Default)]
 pub struct Standing {
     pub latest: Option<OwnNotice>,
     pub heard: i8,
@@ -32,7 +32,7 @@ fn one_more(sum: i8) -> i8
 fn one_fewer(sum: i8) -> i8
     ensures { result ≡ lowered sum }
 {
-    if sum > -127 { sum - 1 } else { -127 }
+    sum.saturating_sub(1).max(-127)
 }
 
 impl Standing {
@@ -40,10 +40,7 @@ impl Standing {
     pub fn new() -> Standing
         ensures { result ≡ fresh }
     {
-        Standing {
-            latest: None,
-            heard: 0,
-        }
+        Standing::default()
     }
 
     // The standing once a notice is heard. What a notice does to a standing is worked out here and nowhere else.
@@ -71,13 +68,8 @@ impl Standing {
                 latest: Some(OwnNotice::Reattached),
                 ..self
             },
-            Notice::OtherIsolated => self,
-            Notice::OtherReattached => self,
-            Notice::OtherSplit => Standing {
-                heard: one_fewer(self.heard),
-                ..self
-            },
-            Notice::OtherDisconnected => Standing {
+            Notice::OtherIsolated | Notice::OtherReattached => self,
+            Notice::OtherSplit | Notice::OtherDisconnected => Standing {
                 heard: one_fewer(self.heard),
                 ..self
             },

@@ -1,6 +1,6 @@
 // What a message holds, and the FACILITY message that rejects a component.
 ghost use Rattle.std.specs.Prelude.{◌≡◌, ◌∷◌};
-ghost use Rattle.components.specs.Component.{reject, said};
+ghost use Rattle.components.specs.Component.{reject};
 ghost use Rattle.components.specs.Message.{message_octets};
 ghost use Rattle.components.specs.Writing.{encoded};
 
@@ -8,17 +8,12 @@ use super::Message;
 use crate::component::{Component, Problem};
 
 impl Message {
+    // The octets of the message.
     pub fn octets(&self) -> &[u8]
         ensures { result.now ≡ message_octets self.now }
     {
-        &self.octets[0..self.length]
+        &self.octets[..self.length]
     }
-}
-
-fn rejecting(id: Option<i16>, problem: Problem) -> Component<'static>
-    ensures { said result ≡ reject id problem }
-{
-    Component::Reject { id, problem }
 }
 
 // FACILITY, 62, with a reject.
@@ -27,11 +22,12 @@ pub(crate) fn reject_message(id: Option<i16>, problem: Problem) -> Message
 {
     let mut octets = [0; 23];
     octets[0] = 0x62;
-    match rejecting(id, problem).write(&mut octets[1..]) {
-        Ok(length) => Message {
-            octets,
-            length: 1 + length,
-        },
-        Err(_) => unreachable(),
+    let component = Component::Reject { id, problem };
+    let Ok(length) = component.write(&mut octets[1..]) else {
+        unreachable!()
+    };
+    Message {
+        octets,
+        length: 1 + length,
     }
 }

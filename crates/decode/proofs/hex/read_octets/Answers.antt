@@ -1,33 +1,20 @@
-use Rattle.std.proofs.Common.{◌≡◌, ◌<◌, length, vec_items, vec_len, sym, ap, ◌∙◌, arith, rules}
-use Rattle.std.proofs.lemmas.Bool.{eqb-true}
-use Rattle.decode.specs.Spelling.{spelled}
-use Rattle.decode.proofs.Reading.{behind, tail, white_turn, pair_turn, bad_turn, blank, behind_none}
+use Rattle.std.proofs.Common.{◌≡◌, ◌∷◌, Some, vec_items, sym, ap, ◌∙◌, rules}
+use Rattle.std.specs.Slice.Iter.{iter_rest}
+use Rattle.decode.specs.Spelling.{pair_value, spelled}
+use Rattle.decode.proofs.Reading.{behind, past_pair, behind_none}
 use Rattle.decode.proofs.hex.read_octets.Goals as goal
 
-pub loop-rest-init : goal.loop-rest-init
-loop-rest-init c = ap (λ l. behind l (spelled c.args.line.now)) c.clear.ensures.items ∙ behind_none (spelled c.args.line.now)
+pub loop-first-init : goal.loop-first-init
+loop-first-init c = rw c.clear.ensures.items (rw c.iter-bytes.ensures.rest (behind_none (spelled c.args.line.now)))
 
-pub loop-rest-preserved-then-is_white : goal.loop-rest-preserved-then-is_white
-loop-rest-preserved-then-is_white c =
-    let some : 0 < length c.loop-rest.rest.now = search rules in
-    white_turn (vec_items c.loop-rest.octets) c.loop-rest.rest.now some (sym c.if-is_white.ensures) ∙ c.loop-rest.invariant
-
-pub returns-in_default-pair : goal.returns-in_default-pair
-returns-in_default-pair c =
-    let some : 0 < length c.loop-rest.rest.now = search rules in
-    let more : 0 < length (tail c.loop-rest.rest.now) = search rules in
-    sym c.loop-rest.invariant ∙ bad_turn (vec_items c.loop-rest.octets) c.loop-rest.rest.now some more (sym c.if-is_white.ensures) (sym c.in_default-pair.ensures)
-
-pub loop-rest-preserved : goal.loop-rest-preserved
-loop-rest-preserved c =
-    let some : 0 < length c.loop-rest.rest.now = search rules in
-    let more : 0 < length (tail c.loop-rest.rest.now) = search rules in
-    ap (λ l. behind l (spelled (tail (tail c.loop-rest.rest.now)))) c.in_ok-push.ensures.items
-    ∙ pair_turn (vec_items c.loop-rest.octets) c.loop-rest.rest.now some more (sym c.if-is_white.ensures) c.in-Some.octet (sym c.in-Some.ensures)
-    ∙ c.loop-rest.invariant
-
-pub returns-then-is_empty : goal.returns-then-is_empty
-returns-then-is_empty c =
-    let none : vec_len c.loop-rest.octets ≡ 0 = eqb-true _ 0 (sym c.if-is_empty.ensures) in
-    let end : length c.loop-rest.rest.now ≡ 0 = search rules in
-    sym c.loop-rest.invariant ∙ blank (vec_items c.loop-rest.octets) c.loop-rest.rest.now (omega (arith, c.loop-rest.octets.ok.0)) end
+pub loop-first-preserved : goal.loop-first-preserved
+loop-first-preserved c =
+    let first = c.in-Some.first.now in
+    let second = c.in_ok-second.second.now in
+    let rest = iter_rest c.next-in-Some.new.self in
+    let cut : iter_rest c.loop-first.bytes ≡ first ∷ second ∷ rest = search rules in
+    let octet : pair_value first second ≡ Some c.in_ok-ok_or.field-0 = search rules in
+    rw c.in_ok-push.ensures.items
+    (sym (past_pair (vec_items c.loop-first.octets) c.in_ok-ok_or.field-0 first second rest (sym c.if-is_white.ensures) octet)
+    ∙ ap (λ l. behind (vec_items c.loop-first.octets) (spelled l)) (sym cut)
+    ∙ c.loop-first.invariant)

@@ -1,10 +1,11 @@
 use Rattle.std.proofs.Common.{◌≡◌, length, vec_items}
+use Rattle.std.specs.Slice.Iter.{iter_rest}
 use Rattle.decode.specs.Spelling.{spelled}
 use Rattle.decode.proofs.Reading.{behind}
 use Rattle.decode.proofs.hex.read_octets.Given as goal
 
-abbrev pub invariant-loop-rest : goal.invariant-loop-rest
-invariant-loop-rest l = behind (vec_items l.octets) (spelled l.rest) ≡ spelled l.line
+abbrev pub invariant-loop-first : goal.invariant-loop-first
+invariant-loop-first l = behind (vec_items l.octets) (spelled (iter_rest l.bytes)) ≡ spelled l.line
 
-abbrev pub decreases-loop-rest : goal.decreases-loop-rest
-decreases-loop-rest l = length l.rest
+abbrev pub decreases-loop-first : goal.decreases-loop-first
+decreases-loop-first l = length (iter_rest l.bytes)

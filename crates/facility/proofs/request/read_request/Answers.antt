@@ -1,24 +1,10 @@
-use Rattle.std.proofs.Common.{length, ap, ◌∙◌}
-use Rattle.std.proofs.lemmas.Result.{err_from_is_err_and}
-use Rattle.facility.specs.Requests.{requested}
-use Rattle.components.specs.Typed.{and_then}
-use Rattle.facility.proofs.Asking.{request_every, request_only}
-use Rattle.components.proofs.Rewriting.{octets_of_slice}
+use Rattle.std.proofs.Common.{rules}
+use Rattle.facility.proofs.Asking.{request_every}
 use Rattle.facility.proofs.request.read_request.Goals as goal
 
-pub returns-in_err-component : goal.returns-in_err-component
-returns-in_err-component c =
-    let p = err_from_is_err_and c.from_residual.result c.from_residual.ensures.1 in
-    let xs = c.args.octets.now in
-    let reads = ap (λ r. and_then r (requested (length xs))) c.in_err-component.ensures.reads in
-    rw (p.1, p.2) (record { reads = reads; only = tt; every = λ a lawful is. reads ∙ request_every xs a lawful is })
+-- the answer is what the octets request, where they do not read and where they do
+pub returns-in_err-read_element-clause-every : goal.returns-in_err-read_element-clause-every
+returns-in_err-read_element-clause-every c a lawful is = request_every _ a _ lawful is (search rules)
 
-pub returns : goal.returns
-returns c =
-    let xs = c.args.octets.now in
-    let reads = c.request_in.ensures.asks ∙ ap (λ r. and_then r (requested (length xs))) c.in_ok-component.ensures.reads in
-    record {
-      reads = reads;
-      only = request_only xs c.request_in.result (octets_of_slice xs c.type_inv.octets) reads c.request_in.ensures.sized;
-      every = λ a lawful is. reads ∙ request_every xs a lawful is;
-    }
+pub returns-clause-every : goal.returns-clause-every
+returns-clause-every c a lawful is = request_every _ a _ lawful is (search rules)

@@ -1,11 +1,11 @@
-use Rattle.std.proofs.Common.{◌≤◌, length, vec_items}
+use Rattle.std.proofs.Common.{◌≤◌, length, vec_items, string_bytes}
 use Rattle.decode.proofs.Cutting.{Left}
 use Rattle.decode.proofs.decoder.Decoder.take_block.Given as goal
 
-abbrev pub invariant-loop-rest : goal.invariant-loop-rest
-invariant-loop-rest l =
+abbrev pub invariant-loop-end : goal.invariant-loop-end
+invariant-loop-end l =
     (length l.rest ≤ length l.block)
-    × Left (vec_items l.initial.self.line) l.block (vec_items l.initial.self.answers) (vec_items l.self.line) l.rest (vec_items l.self.answers)
+    × Left (vec_items l.initial.self.line) l.block (string_bytes l.initial.self.answers) (vec_items l.self.line) l.rest (string_bytes l.self.answers)
 
-abbrev pub decreases-loop-rest : goal.decreases-loop-rest
-decreases-loop-rest l = length l.rest
+abbrev pub decreases-loop-end : goal.decreases-loop-end
+decreases-loop-end l = length l.rest

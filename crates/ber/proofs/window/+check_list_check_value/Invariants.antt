@@ -1,8 +1,0 @@
-use Rattle.std.proofs.Common.{◌+◌, ◌-◌, ◌*◌}
-use Rattle.ber.proofs.window.+check_list_check_value.Given as goal
-
-abbrev pub decreases-check_list : goal.decreases-check_list
-decreases-check_list l = 2 * (l.window.now.end - l.window.now.pos) + 1
-
-abbrev pub decreases-check_value : goal.decreases-check_value
-decreases-check_value l = 2 * (l.window.now.end - l.window.now.pos)
