@@ -4,6 +4,7 @@
 ghost use Rattle.cases.specs.Examples.{DropOfParty5, Operation46};
 
 mod copying;
+mod keeping;
 mod telling;
 mod writing;
 

@@ -1,0 +1,142 @@
+-- Legs stay apart whatever is granted.
+use Rattle.std.proofs.Common.{◌≡◌, ℕ, ◌+◌, ◌≤◌, ◌==◌, ◌&&◌, not, Bool, true, false, cond, List, [], ◌∷◌, ◌++◌, filter, set, Some, None, Option, unwrap_or, refl, sym, ap, ◌∙◌, arith}
+use Rattle.std.proofs.lemmas.Bool.{false≢true}
+use Rattle.std.specs.List.{find}
+use Rattle.tables.specs.declared.call.Call.{Call}
+use Rattle.tables.specs.declared.call.End.TheVariants as end
+use Rattle.tables.specs.declared.call.State.{State}
+use Rattle.tables.specs.declared.call.State.TheVariants.{Absent, Calling, Idle, Held, Clearing}
+use Rattle.tables.specs.declared.conference.Mark.{Mark}
+use Rattle.tables.specs.declared.conference.Mark.TheVariants as mark
+use Rattle.tables.specs.declared.conference.Party.{Party}
+use Rattle.tables.specs.declared.level.Level.{Level}
+use Rattle.tables.specs.Calls.{own_leg, leads_to_leg}
+use Rattle.tables.specs.Edits.{with_call, with_left, with_marked}
+use Rattle.tables.specs.Table.{Table, call_at, conference_with, next_conference, next_party, parties_of, party_with}
+use Rattle.facility.specs.declared.request.Request.{Request}
+use Rattle.facility.specs.declared.request.Request.TheVariants as request
+use Rattle.line.specs.declared.notice.Notice.{Notice}
+use Rattle.line.specs.declared.notice.Notice.TheVariants.{Isolated, Reattached, OtherIsolated, OtherReattached}
+use Rattle.controller.specs.declared.carrier.Carrier.{Carrier}
+use Rattle.controller.specs.declared.carrier.Carrier.TheVariants.{Facility, Setup}
+use Rattle.controller.specs.Apart.{Apart, times_up}
+use Rattle.controller.specs.Granting.{added, begun_by_setup, begun_on_call, effect_of, led_to, remarked, same_mark, split, with_found}
+use Rattle.controller.specs.Judging.{asked_size, control_of}
+use Rattle.controller.specs.Steps.{Effect}
+use Rattle.controller.proofs.Staying.{apart_call, apart_still, on_calls, on_calls-set, on_parties, on_parties-filter-le, on_parties-joined, on_parties-left, on_parties-marked}
+
+-- a call leads to its own leg alone
+leads_own : (k l : ℕ) (s : State) → own_leg s ≡ Some l → leads_to_leg k s ≡ (l == k)
+leads_own k l (Idle (end.Leg m)) own = ap (λ o. unwrap_or o 0 == k) own
+leads_own k l (Held (end.Leg m)) own = ap (λ o. unwrap_or o 0 == k) own
+leads_own k l (Idle (end.Conference m)) own = cc
+leads_own k l (Held (end.Conference m)) own = cc
+leads_own k l Absent own = cc
+leads_own k l Calling own = cc
+leads_own k l Clearing own = cc
+
+-- a call that leads to a conference leads to no leg
+led_nowhere : (k id : ℕ) (s : State) → leads_to_leg k (led_to id s) ≡ false
+led_nowhere k id (Idle (end.Leg m)) = refl
+led_nowhere k id (Held (end.Leg m)) = refl
+led_nowhere k id (Idle (end.Conference m)) = refl
+led_nowhere k id (Held (end.Conference m)) = refl
+led_nowhere k id Absent = refl
+led_nowhere k id Calling = refl
+led_nowhere k id Clearing = refl
+
+-- a call's own leg becomes a party's
+moved : (t : Table) (r : ℕ) (c : Call) (p : Party) (k : ℕ) → own_leg (call_at t r).state ≡ Some p.leg → leads_to_leg k c.state ≡ false
+    → on_calls k (set t.calls r c) + on_parties k (t.parties ++ (p ∷ [])) ≤ times_up t k
+moved t r c p k own none =
+    let before : leads_to_leg k (call_at t r).state ≡ (p.leg == k) = leads_own k p.leg (call_at t r).state own in
+    let none' : cond {A = ℕ} (leads_to_leg k c.state) 1 0 ≡ 0 = rw none refl in
+    let calls : on_calls k (set t.calls r c) + cond (leads_to_leg k (call_at t r).state) 1 0 ≤ on_calls k t.calls = omega (arith, none', on_calls-set k r c t.calls) in
+    let own_gone : on_calls k (set t.calls r c) + cond (p.leg == k) 1 0 ≤ on_calls k t.calls = rw before at calls in
+    omega (arith, own_gone, on_parties-joined k t.parties p)
+
+-- the id of a party that is found
+found_step : (b : Bool) (p : ℕ) (x q : Party) (rest : Option Party) → (x.id == p) ≡ b → cond b (Some x) rest ≡ Some q → (rest ≡ Some q → q.id ≡ p) → q.id ≡ p
+found_step true p x q rest is found later = let same : x.id ≡ p = grind arith in sym (ap (λ o. (unwrap_or o x).id) found) ∙ same
+found_step false p x q rest is found later = later found
+
+found_id : (p : ℕ) (q : Party) (ps : List Party) → find (λ x. x.id == p) ps ≡ Some q → q.id ≡ p
+found_id p q [] found = cc
+found_id p q (x ∷ ps) found = found_step (x.id == p) p x q (find (λ y. y.id == p) ps) refl found (found_id p q ps)
+
+-- a party becomes a call's leg
+moved_back : (t : Table) (r id p : ℕ) (c : Call) (q : Party) (k : ℕ) → party_with t id p ≡ Some q → leads_to_leg k c.state ≡ (q.leg == k)
+    → on_calls k (set t.calls r c) + on_parties k (filter (λ x. not (x.conference == id && x.id == q.id)) t.parties) ≤ times_up t k
+moved_back t r id p c q k found leads =
+    let same : q.id ≡ p = found_id p q (parties_of t id) found in
+    let calls : on_calls k (set t.calls r c) ≤ on_calls k t.calls + cond (q.leg == k) 1 0 = rw (← leads) (omega (arith, on_calls-set k r c t.calls)) in
+    rw same (omega (arith, calls, on_parties-left k id p q t.parties found))
+
+-- where what is looked up is there, and where it is not
+found_apart : {X : Type 0} (t : Table) (o : Option X) (go : X → Effect) → Apart t → ((x : X) → o ≡ Some x → Apart (go x).table) → Apart (with_found t o go).table
+found_apart t None go apart each = apart
+found_apart t (Some x) go apart each = each x refl
+
+-- a party leaves
+left_apart : (t : Table) (id p : ℕ) → Apart t → Apart (with_left id p t)
+left_apart t id p apart =
+    apart_still t (with_left id p t) apart (λ k. omega (arith, on_parties-filter-le k (λ x. not (x.conference == id && x.id == p)) t.parties))
+
+-- of two effects, whichever it is
+either_apart : (b : Bool) (e f : Effect) → Apart e.table → Apart f.table → Apart (cond b e f).table
+either_apart true e f this other = this
+either_apart false e f this other = other
+
+-- a party is marked
+remarked_apart : (m : Mark) (own other : Notice) (id : ℕ) (p : Party) (t : Table) → Apart t → Apart (remarked m own other id p t).table
+remarked_apart m own other id p t apart =
+    either_apart (same_mark p.mark m) _ _ apart (apart_still t (with_marked id p.id m t) apart (λ k. omega (arith, on_parties-marked k id p.id m t.parties)))
+
+-- a conference begins by SETUP
+by_setup_apart : (id size r : ℕ) (t : Table) → Apart t → Apart (begun_by_setup id size r t).table
+by_setup_apart id size r t apart =
+    let c : Call = record { state = Idle (end.Conference id); speech = true } in
+    let still : Apart (with_call r c t) = apart_call t r c apart (λ k leads. absurd (false≢true leads)) in
+    apart_still (with_call r c t) (begun_by_setup id size r t).table still (λ k. omega arith)
+
+-- one begins on a call in progress
+on_call_apart : (id size r leg : ℕ) (t : Table) → own_leg (call_at t r).state ≡ Some leg → Apart t → Apart (begun_on_call id size r leg t).table
+on_call_apart id size r leg t own apart =
+    apart_still t (begun_on_call id size r leg t).table apart
+    (λ k. moved t r (record { state = led_to id (call_at t r).state; speech = (call_at t r).speech }) (record { conference = id; id = 0; leg = leg; mark = mark.Joined }) k own (led_nowhere k id (call_at t r).state))
+
+-- a call is added
+added_apart : (id p r leg : ℕ) (t : Table) → own_leg (call_at t r).state ≡ Some leg → Apart t → Apart (added id p r leg t).table
+added_apart id p r leg t own apart =
+    apart_still t (added id p r leg t).table apart
+    (λ k. moved t r (record { state = Clearing; speech = (call_at t r).speech }) (record { conference = id; id = p; leg = leg; mark = mark.Joined }) k own refl)
+
+-- a party is split off
+split_apart : (id p r : ℕ) (q : Party) (t : Table) → party_with t id p ≡ Some q → Apart t → Apart (split id q r t).table
+split_apart id p r q t found apart =
+    apart_still t (split id q r t).table apart
+    (λ k. moved_back t r id p (record { state = Idle (end.Leg q.leg); speech = true }) q k found refl)
+
+-- whatever a granted request does, each leg is up once at most
+pub granted_apart : (level : Level) (carrier : Carrier) (asked : Request) (t : Table) → Apart t → Apart (effect_of level carrier asked t).table
+granted_apart level (Setup r speech) (request.Begin size) t apart = found_apart t (next_conference t) _ apart (λ id is. by_setup_apart id (asked_size level size) r t apart)
+granted_apart level (Facility r) (request.Begin size) t apart =
+    found_apart t (next_conference t) _ apart
+    (λ id is. found_apart t (own_leg (call_at t r).state) _ apart (λ leg own. on_call_apart id (asked_size level size) r leg t own apart))
+granted_apart level (Facility r) (request.Add id) t apart =
+    found_apart t (conference_with t id) _ apart
+    (λ c is. found_apart t (next_party t c) _ apart (λ p next. found_apart t (own_leg (call_at t r).state) _ apart (λ leg own. added_apart id p r leg t own apart)))
+granted_apart level (Setup r speech) (request.Split id p) t apart = found_apart t (party_with t id p) _ apart (λ q is. split_apart id p r q t is apart)
+granted_apart level (Facility r) (request.Drop p) t apart =
+    found_apart t (control_of t r) _ apart (λ c is. found_apart t (party_with t c.id p) _ apart (λ q there. left_apart t c.id q.id apart))
+granted_apart level (Facility r) (request.Isolate p) t apart =
+    found_apart t (control_of t r) _ apart
+    (λ c is. found_apart t (party_with t c.id p) _ apart (λ q there. remarked_apart mark.Isolated Isolated OtherIsolated c.id q t apart))
+granted_apart level (Facility r) (request.Reattach p) t apart =
+    found_apart t (control_of t r) _ apart
+    (λ c is. found_apart t (party_with t c.id p) _ apart (λ q there. remarked_apart mark.Joined Reattached OtherReattached c.id q t apart))
+granted_apart level (Facility r) (request.Split id p) t apart = apart
+granted_apart level (Setup r speech) (request.Add id) t apart = apart
+granted_apart level (Setup r speech) (request.Drop p) t apart = apart
+granted_apart level (Setup r speech) (request.Isolate p) t apart = apart
+granted_apart level (Setup r speech) (request.Reattach p) t apart = apart

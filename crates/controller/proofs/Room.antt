@@ -1,0 +1,68 @@
+-- Where legs are apart, a call that leads to one leaves room for it as a party.
+use Rattle.std.proofs.Common.{not, is_some, ◌||◌, nat_lt, nat_le, ◌≡◌, ℕ, ◌<◌, ◌≤◌, ◌==◌, Bool, true, cond, List, [], ◌∷◌, length, get_or, Some, refl, false, sym, ◌∙◌, ap, unwrap_or, eq-eqb, suc, zero, arith}
+use Rattle.std.proofs.lemmas.List.{length-map}
+use Rattle.std.proofs.lemmas.Bool.{false≢true}
+use Rattle.std.specs.List.{count_by}
+use Rattle.std.proofs.lemmas.List.Sums.{sum_by-cons}
+use Rattle.tables.specs.declared.call.Call.{Call}
+use Rattle.tables.specs.declared.call.End.TheVariants as end
+use Rattle.tables.specs.declared.call.State.{State}
+use Rattle.tables.specs.declared.call.State.TheVariants.{Absent, Calling, Idle, Held, Clearing}
+use Rattle.tables.specs.declared.conference.Party.{Party}
+use Rattle.tables.specs.Calls.{absent, leads_to_conference, leads_to_leg, own_leg}
+use Rattle.tables.specs.Table.{Table, call_at, legs_of}
+use Rattle.tables.specs.declared.level.Level.{Level}
+use Rattle.controller.specs.Judging.{Verdict, granted, failed, first_wrong, in_progress, begin_on_call}
+use Rattle.controller.specs.Apart.{Apart, times_up}
+use Rattle.controller.proofs.Distinct.{times, times-cons, length-distinct_but}
+
+-- what passes a test is counted
+counted : {X : Type 0} (p : X → Bool) (xs : List X) (r : ℕ) (d : X) → p d ≡ false → p (get_or xs r d) ≡ true → 1 ≤ count_by p xs
+counted p [] r d fails passes = absurd (false≢true (sym fails ∙ passes))
+counted p (x ∷ xs) zero d fails passes = grind (arith, sum_by-cons (λ y. cond (p y) 1 0) x xs)
+counted p (x ∷ xs) (suc r) d fails passes = grind (arith, sum_by-cons (λ y. cond (p y) 1 0) x xs, counted p xs r d fails passes)
+
+-- a call whose own leg is k leads to k
+leads : (k : ℕ) (s : State) → own_leg s ≡ Some k → leads_to_leg k s ≡ true
+leads k (Idle (end.Leg l)) own = eq-eqb l k (ap (λ o. unwrap_or o 0) own)
+leads k (Held (end.Leg l)) own = eq-eqb l k (ap (λ o. unwrap_or o 0) own)
+leads k (Idle (end.Conference l)) own = cc
+leads k (Held (end.Conference l)) own = cc
+leads k Absent own = cc
+leads k Calling own = cc
+leads k Clearing own = cc
+
+-- a leg's parties are counted by their legs
+times-legs : (k : ℕ) (ps : List Party) → times k (legs_of ps) ≡ count_by (λ p. p.leg == k) ps
+times-legs k [] = refl
+times-legs k (p ∷ ps) = grind (arith, times-cons k p.leg (legs_of ps), sum_by-cons (λ q. cond (q.leg == k) 1 0) p ps, times-legs k ps)
+
+-- a leg that a call leads to is no party's
+pub room_for_party : (t : Table) (r k : ℕ) → Apart t → own_leg (call_at t r).state ≡ Some k → length t.parties < 64
+room_for_party t r k apart own =
+    let on_call : 1 ≤ count_by (λ c. leads_to_leg k c.state) t.calls = counted (λ c. leads_to_leg k c.state) t.calls r absent refl (leads k (call_at t r).state own) in
+    let up : 1 ≤ times_up t k = omega (arith, on_call) in
+    let none : times k (legs_of t.parties) ≡ 0 = rw times-legs (omega (arith, on_call, apart.once k)) in
+    let fewer : length (legs_of t.parties) < 64 =
+    length-distinct_but 64 k (legs_of t.parties) (apart.legs k up).0 (apart.legs k up).1 none
+    (λ j. rw times-legs (omega (arith, apart.once j)))
+    (λ j there. apart.legs j (let is : 1 ≤ count_by (λ p. p.leg == j) t.parties = rw (← times-legs j t.parties) there in omega (arith, is))) in
+    rw length-map at fewer
+
+-- what is granted passed the third test
+third_passed : (a b c : Bool) (rest : List (Bool × Verdict)) → first_wrong ((a, failed 0) ∷ (b, failed 30) ∷ (c, failed 11) ∷ rest) ≡ granted → c ≡ false
+third_passed true b c rest is = cc
+third_passed false true c rest is = cc
+third_passed false false true rest is = cc
+third_passed false false false rest is = refl
+
+-- a conference that is granted has room in the tables
+room_below : (level : Level) (n : ℕ) → nat_le level.conferences n ≡ false → n < 8
+room_below level n below = grind (arith, level.lawful.most_conferences)
+
+-- so has one begun on a call in progress
+pub room_on_call : (level : Level) (t : Table) (size : ℕ) (c : Call) → begin_on_call level t size c ≡ granted → length t.conferences < 8
+room_on_call level t size c is =
+    let last : List (Bool × Verdict) =
+    (not (in_progress c.state), failed 7) ∷ (not c.speech || (not level.active || is_some (leads_to_conference c.state)), failed 3) ∷ [] in
+    room_below level (length t.conferences) (third_passed (not level.subscribed) (size == 0 || nat_lt level.size size) _ last is)

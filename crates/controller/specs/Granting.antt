@@ -1,0 +1,103 @@
+-- What a granted request does: to the tables, to the line, and to the legs. Assumes nothing.
+use Rattle.std.specs.Prelude.{ℕ, Bool, true, false, cond, [], ◌∷◌, Some, None, Option}
+use Rattle.line.specs.declared.notice.Notice.{Notice}
+use Rattle.line.specs.declared.notice.Notice.TheVariants.{Established, Disconnected, OtherAdded, Isolated, Reattached, OtherIsolated, OtherReattached, OtherSplit, OtherDisconnected}
+use Rattle.tables.specs.declared.call.End.TheVariants as end
+use Rattle.tables.specs.declared.call.State.{State}
+use Rattle.tables.specs.declared.call.State.TheVariants.{Idle, Held, Clearing}
+use Rattle.tables.specs.declared.conference.Mark.{Mark}
+use Rattle.tables.specs.declared.conference.Mark.TheVariants as mark
+use Rattle.tables.specs.declared.conference.Party.{Party}
+use Rattle.tables.specs.declared.level.Level.{Level}
+pub use Rattle.tables.specs.Calls.{own_leg}
+pub use Rattle.tables.specs.Edits.{new_conference}
+use Rattle.tables.specs.Edits.{with_call, with_begun, with_joined, with_left, with_marked}
+pub use Rattle.tables.specs.Table.{next_conference, next_party}
+use Rattle.tables.specs.Table.{Table, call_at, conference_with, parties_of, party_with}
+use Rattle.facility.specs.declared.request.Request.{Request}
+use Rattle.facility.specs.declared.request.Request.TheVariants as request
+use Rattle.controller.specs.declared.carrier.Carrier.{Carrier}
+use Rattle.controller.specs.declared.carrier.Carrier.TheVariants.{Facility, Setup}
+use Rattle.controller.specs.Judging.{asked_size, control_of}
+use Rattle.controller.specs.Steps.{Effect, each, others}
+
+-- nothing is changed, told or gone
+abbrev pub nothing : Table → Effect
+nothing t = record { table = t; told = []; gone = 0 }
+
+-- what is known of the ids that a granted request gives: a ConferenceId, and a PartyId
+pub record Ids : Type 0 where
+  pub conference : ℕ
+  pub party : ℕ
+
+-- the call leads to a conference now, idle or held as it was
+abbrev pub led_to : ℕ → State → State
+led_to id (Held to) = Held (end.Conference id)
+led_to id _ = Idle (end.Conference id)
+
+-- begun by SETUP: the call is idle, and the link of a conference without parties
+abbrev pub begun_by_setup : ℕ → ℕ → ℕ → Table → Effect
+begun_by_setup id size r t = nothing (with_begun (new_conference id size r) (with_call r (record { state = Idle (end.Conference id); speech = true }) t))
+
+-- begun on a call in progress: its leg becomes the first party, and the call the link
+abbrev pub begun_on_call : ℕ → ℕ → ℕ → ℕ → Table → Effect
+begun_on_call id size r leg t =
+    let c = call_at t r in
+    record {
+      table = with_joined id 0 leg (with_begun (new_conference id size r) (with_call r (record { state = led_to id c.state; speech = c.speech }) t));
+      told = (leg, Established) ∷ [];
+      gone = 0;
+    }
+
+-- added: the call's leg becomes a party, the call is cleared, and the others hear of it
+abbrev pub added : ℕ → ℕ → ℕ → ℕ → Table → Effect
+added id p r leg t = record {
+  table = with_joined id p leg (with_call r (record { state = Clearing; speech = (call_at t r).speech }) t);
+  told = (leg, Established) ∷ each OtherAdded (parties_of t id);
+  gone = 0;
+}
+
+-- split off: the party is on a call of two parties again
+abbrev pub split : ℕ → Party → ℕ → Table → Effect
+split id p r t = record {
+  table = with_left id p.id (with_call r (record { state = Idle (end.Leg p.leg); speech = true }) t);
+  told = (p.leg, Disconnected) ∷ each OtherSplit (others t id p.id);
+  gone = 0;
+}
+
+-- dropped: the leg goes down
+abbrev pub dropped : ℕ → Party → Table → Effect
+dropped id p t = record { table = with_left id p.id t; told = each OtherDisconnected (others t id p.id); gone = 1 }
+
+-- isolated or reattached; one who is so already stays so, and nobody hears of it
+abbrev pub same_mark : Mark → Mark → Bool
+same_mark mark.Joined mark.Joined = true
+same_mark mark.Isolated mark.Isolated = true
+same_mark _ _ = false
+
+abbrev pub remarked : Mark → Notice → Notice → ℕ → Party → Table → Effect
+remarked m own other id p t =
+    cond (same_mark p.mark m) (nothing t)
+    (record { table = with_marked id p.id m t; told = (p.leg, own) ∷ each other (others t id p.id); gone = 0 })
+
+-- the effect where all that is looked up is there
+abbrev pub with_found : {X : Type 0} → Table → Option X → (X → Effect) → Effect
+with_found t None go = nothing t
+with_found t (Some x) go = go x
+
+-- what a request does, if it is granted
+abbrev pub effect_of : Level → Carrier → Request → Table → Effect
+effect_of level (Setup r speech) (request.Begin size) t =
+    with_found t (next_conference t) (λ id. begun_by_setup id (asked_size level size) r t)
+effect_of level (Facility r) (request.Begin size) t =
+    with_found t (next_conference t) (λ id. with_found t (own_leg (call_at t r).state) (λ leg. begun_on_call id (asked_size level size) r leg t))
+effect_of level (Facility r) (request.Add id) t =
+    with_found t (conference_with t id) (λ c. with_found t (next_party t c) (λ p. with_found t (own_leg (call_at t r).state) (λ leg. added id p r leg t)))
+effect_of level (Setup r speech) (request.Split id p) t = with_found t (party_with t id p) (λ q. split id q r t)
+effect_of level (Facility r) (request.Drop p) t =
+    with_found t (control_of t r) (λ c. with_found t (party_with t c.id p) (λ q. dropped c.id q t))
+effect_of level (Facility r) (request.Isolate p) t =
+    with_found t (control_of t r) (λ c. with_found t (party_with t c.id p) (λ q. remarked mark.Isolated Isolated OtherIsolated c.id q t))
+effect_of level (Facility r) (request.Reattach p) t =
+    with_found t (control_of t r) (λ c. with_found t (party_with t c.id p) (λ q. remarked mark.Joined Reattached OtherReattached c.id q t))
+effect_of level carrier _ t = nothing t

@@ -1,0 +1,9 @@
+pub mod Steps
+pub mod Reports
+pub mod Changes
+pub mod Judging
+pub mod Verdicts
+pub mod Granting
+pub mod Apart
+pub mod Deeds
+pub mod Replies

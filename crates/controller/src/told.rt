@@ -1,0 +1,118 @@
+// What is told, and to whom.
+ghost use Rattle.std.specs.Prelude.{◌≡◌, [], length};
+ghost use Rattle.controller.specs.Deeds.{deed_effect, told_list};
+ghost use Rattle.controller.specs.Steps.{each, others};
+
+use crate::deed::Deed;
+use arrayvec::ArrayVec;
+use line::Notice;
+use tables::{Mark, Party, Tables};
+
+// First a notice to a leg of its own, if there is one, and then another to each of the hearers.
+#[derive(Drop)]
+pub(crate) struct Told {
+    own: Option<(u8, Notice)>,
+    other: Notice,
+    hearers: ArrayVec<Party, 64>,
+}
+
+// The parties of a conference but one, in order of joining.
+fn others(tables: &Tables, conference: u8, but: u8) -> ArrayVec<Party, 64>
+    ensures { result.items ≡ others tables.now conference but }
+{
+    let mut parties = tables.parties_of(conference);
+    parties.retain(|p| p.id != but);
+    parties
+}
+
+// What is told of a party that comes to be marked: nothing, if it is marked so already.
+fn told_of_mark(tables: &Tables, conference: u8, party: Party, mark: Mark) -> Told
+    ensures { told_list result ≡ (deed_effect tables.now (Deed.Remark conference party mark)).told }
+{
+    if party.mark == mark {
+        return Told::nothing();
+    }
+    let (own, other) = match mark {
+        Mark::Isolated => (Notice::Isolated, Notice::OtherIsolated),
+        Mark::Joined => (Notice::Reattached, Notice::OtherReattached),
+    };
+    Told {
+        own: Some((party.leg, own)),
+        other,
+        hearers: others(tables, conference, party.id),
+    }
+}
+
+impl Told {
+    // Nothing is told.
+    pub(crate) fn nothing() -> Told
+        ensures { told_list result ≡ [] }
+    {
+        Told {
+            own: None,
+            other: Notice::OtherAdded,
+            hearers: ArrayVec::new(),
+        }
+    }
+
+    // A party left: the others hear of it.
+    pub(crate) fn of_leaving(tables: &Tables, conference: u8, party: u8) -> Told
+        ensures { told_list result ≡ each Notice.OtherDisconnected (others tables.now conference party) }
+    {
+        Told {
+            own: None,
+            other: Notice::OtherDisconnected,
+            hearers: others(tables, conference, party),
+        }
+    }
+
+    // How many notices are told.
+    pub(crate) fn count(&self) -> usize
+        ensures { result ≡ length (told_list self.now) }
+    {
+        match self.own {
+            Some(_) => self.hearers.len() + 1,
+            None => self.hearers.len(),
+        }
+    }
+}
+
+impl Deed {
+    // What the deed tells, by the tables before it.
+    pub(crate) fn told(self, tables: &Tables) -> Told
+        ensures { told_list result ≡ (deed_effect tables.now self).told }
+    {
+        match self {
+            Deed::BeginBySetup { .. } => Told::nothing(),
+            Deed::BeginOnCall { leg, .. } => Told {
+                own: Some((leg, Notice::Established)),
+                other: Notice::OtherAdded,
+                hearers: ArrayVec::new(),
+            },
+            Deed::Add {
+                conference,
+                leg,
+                ..
+            } => Told {
+                own: Some((leg, Notice::Established)),
+                other: Notice::OtherAdded,
+                hearers: tables.parties_of(conference),
+            },
+            Deed::Split {
+                conference,
+                party,
+                ..
+            } => Told {
+                own: Some((party.leg, Notice::Disconnected)),
+                other: Notice::OtherSplit,
+                hearers: others(tables, conference, party.id),
+            },
+            Deed::Drop { conference, party } => Told::of_leaving(tables, conference, party.id),
+            Deed::Remark {
+                conference,
+                party,
+                mark,
+            } => told_of_mark(tables, conference, party, mark),
+        }
+    }
+}

@@ -1,0 +1,54 @@
+// What becomes of a request: it is granted, or it is not, and then one error or one problem says why.
+ghost use Rattle.std.specs.Prelude.{◌≡◌};
+ghost use Rattle.controller.specs.Verdicts.{error_number, problem_number};
+
+// The return errors of the conference operations, each with its number.
+#[derive(Clone, Copy, PartialEq, Eq, Debug)]
+pub(crate) enum OperationError {
+    NotSubscribed = 0,
+    NotAvailable = 3,
+    InvalidCallState = 7,
+    ResourceUnavailable = 11,
+    IllConferenceId = 28,
+    IllPartyId = 29,
+    NumberOfPartiesExceeded = 30,
+    NotActive = 31,
+    NotAllowed = 32,
+}
+
+impl OperationError {
+    // The number that a return error carries.
+    pub(crate) fn number(self) -> u8
+        ensures { result ≡ error_number self }
+    {
+        self as u8
+    }
+}
+
+// The invoke problems of a reject, each with its number.
+#[derive(Clone, Copy, PartialEq, Eq, Debug)]
+pub(crate) enum InvokeProblem {
+    UnrecognizedOperation = 1,
+    ResourceLimitation = 3,
+}
+
+impl InvokeProblem {
+    // The number that a reject carries.
+    pub(crate) fn number(self) -> u8
+        ensures { result ≡ problem_number self }
+    {
+        self as u8
+    }
+}
+
+// Why a request is not granted.
+#[derive(Clone, Copy, PartialEq, Eq, Debug)]
+pub(crate) enum Wrong {
+    // answered with a return error
+    Failed(OperationError),
+    // answered with a reject
+    Rejected(InvokeProblem),
+}
+
+// Granted, or why not.
+pub(crate) type Verdict = Result<(), Wrong>;

@@ -1,0 +1,113 @@
+-- The company law holds along every history.
+use Rattle.std.proofs.Common.{◌≡◌, ℕ, ◌≤◌, Bool, true, false, cond, List, [], ◌∷◌, ◌++◌, length, take, subst, get_or, replicate, refl, sym, inl, inr, arith}
+use Rattle.std.proofs.lemmas.Bool.{cases_lt, true≢false}
+use Rattle.std.proofs.lemmas.List.{get_or-replicate, get_or_past}
+use Rattle.std.proofs.lemmas.List.Sums.{fold_push}
+use Rattle.std.proofs.lemmas.List.{take-append-le, take_all, length_push}
+use Rattle.facility.specs.declared.request.RequestInvoke.{RequestInvoke}
+use Rattle.line.specs.Meaning.{Standings}
+use Rattle.tables.specs.declared.level.Level.{Level}
+use Rattle.tables.specs.Calls.{absent}
+use Rattle.tables.specs.Table.{Table}
+use Rattle.controller.specs.declared.carrier.Carrier.{Carrier}
+use Rattle.controller.specs.Granting.{nothing}
+use Rattle.controller.specs.Judging.{reference_of}
+use Rattle.controller.specs.Replies.{settled, turned_away}
+use Rattle.controller.specs.Steps.{is_reference}
+use Rattle.operator.specs.declared.step.Step.{Step}
+use Rattle.operator.specs.declared.step.Step.TheVariants as step
+use Rattle.operator.specs.Company.{Company}
+use Rattle.operator.specs.Roster.{down, is_up, Roster, empty, written}
+use Rattle.operator.specs.Run.{Run, start, next, Turned, roster_after, Reached, GoesOn}
+use Rattle.tables.specs.declared.refusal.Refusal.TheVariants.{OutOfRange}
+use Rattle.operator.specs.Turns.{RoomAfter, replied, Turn, Heard, turn, new_table, reply_turn, refusal}
+use Rattle.operator.proofs.Counts.{count_none}
+use Rattle.operator.proofs.Holding.{Kept}
+use Rattle.operator.proofs.Keeping.{kept_same, counted_none}
+use Rattle.operator.proofs.Law.{company}
+use Rattle.operator.proofs.Reporting.{report_kept, reference_below}
+use Rattle.operator.proofs.Requesting.{settled_kept}
+
+-- new tables fit the empty roster, whatever the line's standings
+new_call : (ref : ℕ) → get_or new_table.calls ref absent ≡ absent
+new_call ref = elim (cases_lt ref 128) [
+  | inl lt ↦ get_or-replicate 128 ref absent absent lt
+  | inr past ↦ get_or_past (replicate 128 absent) ref absent past
+]
+
+-- so they fit, whatever the standings are
+pub kept_new : (s : Standings) → Kept empty new_table s
+kept_new s = record {
+  holds = record {
+    ranged = λ k up. absurd (true≢false (sym up));
+    apart = λ k l c p is is'. absurd (true≢false (sym is));
+    calls_fit = record {
+      long = refl;
+      led_to = λ k ref. rw (new_call ref);
+      led = λ ref. rw (new_call ref) refl;
+    };
+    parties_fit = λ k. refl;
+    linked = λ ref. refl;
+    once = λ q q' c is is'. cc;
+    housed = λ k c is. absurd (true≢false (sym is));
+    sized = λ c is. absurd is;
+    told = λ k. tt;
+  };
+  number = let none = count_none (λ k. is_up down) (λ k. refl) in omega arith;
+}
+
+-- whatever is done, the company is kept
+settled_turn : (r : Roster) (t : Table) (s s' : Standings) (level : Level) (room : ℕ) (carrier : Carrier) (asked : RequestInvoke) (b : Bool) → is_reference (reference_of carrier) ≡ b → Kept r t s
+    → (let x = cond b (reply_turn (settled level room carrier asked t)) (refusal OutOfRange t) in Heard x.effect s s' → Kept (written (step.Settled carrier asked) x.answer r) x.effect.table s')
+settled_turn r t s s' level room carrier asked true is kept = settled_kept r t s s' level room carrier asked (reference_below (reference_of carrier) is) kept
+settled_turn r t s s' level room carrier asked false is kept = λ heard. counted_none (kept_same s' heard kept)
+
+-- a request turned away
+away_turn : (r : Roster) (t : Table) (s s' : Standings) (carrier : Carrier) (asked : RequestInvoke) (b : Bool) → Kept r t s
+    → (let x : Turn = cond b (record { answer = replied (turned_away asked) 0; effect = nothing t }) (refusal OutOfRange t) in Heard x.effect s s' → Kept (written (step.TurnedAway carrier asked) x.answer r) x.effect.table s')
+away_turn r t s s' carrier asked true kept = λ heard. counted_none (kept_same s' heard kept)
+away_turn r t s s' carrier asked false kept = λ heard. counted_none (kept_same s' heard kept)
+
+-- any step at all
+pub turn_kept : (r : Roster) (t : Table) (s s' : Standings) (level : Level) (room : ℕ) (st : Step) → Kept r t s → Heard (turn level room st t).effect s s' → Kept (written st (turn level room st t).answer r) (turn level room st t).effect.table s'
+turn_kept r t s s' level room (step.Reported rep) kept = report_kept r t s s' room rep kept
+turn_kept r t s s' level room (step.Settled carrier asked) kept = settled_turn r t s s' level room carrier asked (is_reference (reference_of carrier)) refl kept
+turn_kept r t s s' level room (step.TurnedAway carrier asked) kept = away_turn r t s s' carrier asked (is_reference (reference_of carrier)) kept
+turn_kept r t s s' level room step.Collected kept = λ heard. counted_none (kept_same s' heard kept)
+
+-- the roster after one turn more
+roster_next : (h : List Turned) (turned : Turned) → roster_after (h ++ (turned ∷ [])) ≡ written turned.0 turned.1 (roster_after h)
+roster_next h turned = fold_push (λ r turned. written turned.0 turned.1 r) empty h turned
+
+-- after any history, what holds holds
+pub run_kept : {level : Level} {h : List Turned} {t : Table} {s : Standings} {room : ℕ} → Run level h t s room → Kept (roster_after h) t s
+run_kept (start s room roomy) = kept_new s
+run_kept {level} (next h t s s' room room' st run heard after) =
+    let kept = turn_kept (roster_after h) t s s' level room st (run_kept run) heard in
+    subst (λ r. Kept r (turn level room st t).effect.table s') (sym (roster_next h (st, (turn level room st t).answer))) kept
+
+-- the company law, after any history
+pub company_holds : {level : Level} {h : List Turned} {t : Table} {s : Standings} {room : ℕ} → Run level h t s room → Company (roster_after h) t s
+company_holds run = company _ _ _ (run_kept run)
+
+-- what a whole history led to
+reached : {level : Level} {h : List Turned} {t : Table} {s : Standings} {room : ℕ} → Run level h t s room → (i : ℕ) → length h ≤ i → Reached level (take i h)
+reached {level} {h} {t} {s} {room} run i all = subst (Reached level) (sym (take_all i h all)) (record { table = t; standings = s; room = room; run = run; law = company_holds run })
+
+-- the law holds after each turn of a history
+pub at_each_turn : {level : Level} {h : List Turned} {t : Table} {s : Standings} {room : ℕ} → Run level h t s room → (i : ℕ) → Reached level (take i h)
+at_each_turn (start s room roomy) i = reached (start s room roomy) i (omega arith)
+at_each_turn {level} (next h t s s' room room' st run heard after) i =
+    let turned : Turned = (st, (turn level room st t).answer) in
+    elim (cases_lt (length h) i) [
+      | inl past ↦ let long = length_push h turned in reached (next h t s s' room room' st run heard after) i (omega arith)
+      | inr within ↦ subst (Reached level) (sym (take-append-le i h (turned ∷ []) within)) (at_each_turn run i)
+    ]
+
+-- a step carries on whatever history led to where it began
+pub goes_on : {level : Level} {st : Step} {t : Table} {s s' : Standings} {room room' : ℕ} → Heard (turn level room st t).effect s s' → RoomAfter st (turn level room st t).effect room room'
+    → GoesOn level st (turn level room st t).answer t (turn level room st t).effect.table s s' room room'
+goes_on {level} {st} {t} {s} {s'} {room} {room'} heard after = record {
+  run = λ h run. next h t s s' room room' st run heard after;
+  law = λ h run. company_holds (next h t s s' room room' st run heard after);
+}

@@ -1,0 +1,4 @@
+pub mod Turns
+pub mod Roster
+pub mod Company
+pub mod Run

@@ -1,0 +1,69 @@
+-- What each step answers and does. Assumes nothing.
+use Rattle.std.specs.Prelude.{◌≡◌, ℕ, ◌+◌, ◌≤◌, cond, List, [], replicate, length, None, Ok, Err, Option, Result, All}
+use Rattle.line.specs.Acts.{heard, notices_to}
+use Rattle.line.specs.Meaning.{Leg, Standings}
+use Rattle.tables.specs.declared.level.Level.{Level}
+use Rattle.tables.specs.declared.refusal.Refusal.{Refusal}
+use Rattle.tables.specs.declared.refusal.Refusal.TheVariants.{OutOfRange}
+use Rattle.tables.specs.Calls.{absent}
+use Rattle.tables.specs.Table.{Table}
+use Rattle.controller.specs.Granting.{nothing}
+use Rattle.controller.specs.Judging.{reference_of}
+use Rattle.controller.specs.Replies.{Settled, settled, turned_away}
+use Rattle.controller.specs.Reports.{Accepted, reported}
+use Rattle.controller.specs.declared.disc.Disc.{Disc}
+use Rattle.controller.specs.Steps.{Effect, is_reference}
+use Rattle.operator.specs.declared.step.Step.{Step}
+use Rattle.operator.specs.declared.step.Step.TheVariants as step
+
+-- an answer: a refusal; a step done, how many legs are gone, and the PartyDISC that is sent, if any; the message body that answers
+-- a request, and how many legs are gone
+pub data Answer : Type 0 where
+  refused : (why : Refusal) → Answer
+  done : (gone : ℕ) (disc : Option Disc) → Answer
+  replied : (body : List ℕ) (gone : ℕ) → Answer
+
+-- a step's answer, and what it does
+pub record Turn : Type 0 where
+  pub answer : Answer
+  pub effect : Effect
+
+-- a refusal does nothing
+abbrev pub refusal : Refusal → Table → Turn
+refusal why t = record { answer = refused why; effect = nothing t }
+
+-- a report, accepted or refused
+abbrev pub report_turn : Result Accepted Refusal → Table → Turn
+report_turn (Ok a) t = record { answer = done a.effect.gone a.disc; effect = a.effect }
+report_turn (Err why) t = refusal why t
+
+-- a request, answered by a message
+abbrev pub reply_turn : Settled → Turn
+reply_turn s = record { answer = replied s.body s.effect.gone; effect = s.effect }
+
+-- the turn that a step is, on a line with some room: a request that came with a reference out of range is refused first
+abbrev pub turn : Level → ℕ → Step → Table → Turn
+turn level room (step.Reported report) t = report_turn (reported room report t) t
+turn level room (step.Settled carrier asked) t =
+    cond (is_reference (reference_of carrier)) (reply_turn (settled level room carrier asked t)) (refusal OutOfRange t)
+turn level room (step.TurnedAway carrier asked) t =
+    cond (is_reference (reference_of carrier)) (record { answer = replied (turned_away asked) 0; effect = nothing t }) (refusal OutOfRange t)
+turn level room step.Collected t = record { answer = done 0 None; effect = nothing t }
+
+-- each leg has heard, in order, what it was told
+abbrev pub Heard : Effect → Standings → Standings → Type 0
+Heard e s s' = (k : ℕ) → s' k ≡ heard (notices_to k e.told) (s k)
+
+-- the room after a step: each notice takes one at most, and a collection leaves room for 64
+abbrev pub RoomAfter : Step → Effect → ℕ → ℕ → Type 0
+RoomAfter step.Collected e room room' = 64 ≤ room'
+RoomAfter _ e room room' = (room' ≤ room) × (room ≤ room' + length e.told)
+
+-- all that a step tells can be told: there is room for it, and each leg told is one that there is
+pub record Tellable (e : Effect) (room : ℕ) : Type 0 where
+  pub roomy : length e.told ≤ room
+  pub legs : All (λ telling. Leg telling.0) e.told
+
+-- the tables of a new controller: calls absent, legs down, no conference
+abbrev pub new_table : Table
+new_table = record { calls = replicate 128 absent; conferences = []; parties = []; conference_ids = 127; disc_ids = 127 }

@@ -1,0 +1,8 @@
+// The operator: a controller and its line, step after step, and the company law that holds at each of them.
+//
+// The rules are in `specs/`: what a step does, the roster that is written from the answers, and the law.
+#![tactic(auto)]
+
+mod step;
+
+pub use step::Step;
