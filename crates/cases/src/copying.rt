@@ -8,6 +8,7 @@ use facility::read_element;
 pub fn copy_element(octets: &[u8], memory: &mut [u8]) -> bool
     ensures { Copies octets.now memory.old memory.new result }
 {
+    // A yes or no is all that is asked; why a component is not written is the answer of `write`.
     match read_element(octets) {
         Ok(component) => component.write(memory).is_ok(),
         Err(_) => false,

@@ -14,7 +14,8 @@ pub struct Answer<'a> {
     pub parameter: Parameter<'a>,
 }
 
-// Why a component was rejected, by the kind of component at fault, with the problem's code.
+// Why a component was rejected, by the kind of component at fault, with the problem's code. The code stays a number: any octet
+// reads, with a name or without.
 #[derive(Clone, Copy)]
 pub enum Problem {
     General(u8),
@@ -23,6 +24,8 @@ pub enum Problem {
     ReturnError(u8),
 }
 
+// Operations and errors stay numbers, since any that fits reads; the operations of a conference are named where requests are
+// read.
 #[derive(Clone, Copy)]
 pub enum Component<'a> {
     Invoke {

@@ -109,7 +109,8 @@ const UNRECOGNIZED_OPERATION: u8 = 1;
 const MISTYPED_ARGUMENT: u8 = 2;
 
 impl Cause {
-    // The invoke id and the problem of the reject that answers the cause; none for the element layer, and without an invoke.
+    // The two fields of the reject that answers the cause, invoke id and problem; none for the element layer, nor without an
+    // invoke.
     fn rejection(self) -> Option<(Option<i16>, Problem)>
         ensures { option_map (λ p. reject p.0 p.1) result ≡ rejection self }
     {

@@ -69,7 +69,7 @@ impl Contents {
         }
     }
 
-    // An invoke id, or NULL.
+    // An invoke id, or NULL. (`sized`, here and below, says of a number that it is an `i16`'s, to callers that see an integer.)
     fn put_id(&mut self, id: Option<i16>) -> Result<(), Refusal>
         ensures put { Appends (id_octets id) self.old self.new result }
         ensures sized { Each (λ n. FitsSigned w16 n) id }
