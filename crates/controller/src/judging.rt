@@ -82,7 +82,7 @@ fn is_full(tables: &Tables, conference: Option<Conference>) -> bool
 {
     match conference {
         None => false,
-        Some(c) => c.size as usize <= tables.party_count(c.id),
+        Some(c) => usize::from(c.size) <= tables.party_count(c.id),
     }
 }
 
@@ -96,7 +96,7 @@ fn begin_by_setup(level: Level, tables: &Tables, size: u8, speech: bool) -> Verd
     if level.size() < size {
         return Err(Failed(NumberOfPartiesExceeded));
     }
-    if level.conferences() as usize <= tables.conference_count() {
+    if usize::from(level.conferences()) <= tables.conference_count() {
         return Err(Failed(ResourceUnavailable));
     }
     if !speech {
@@ -115,7 +115,7 @@ fn begin_on_call(level: Level, tables: &Tables, size: u8, call: Call) -> Verdict
     if size == 0 || level.size() < size {
         return Err(Failed(NumberOfPartiesExceeded));
     }
-    if level.conferences() as usize <= tables.conference_count() {
+    if usize::from(level.conferences()) <= tables.conference_count() {
         return Err(Failed(ResourceUnavailable));
     }
     if !in_progress(call) {

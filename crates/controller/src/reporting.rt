@@ -25,7 +25,7 @@ fn is_reference(reference: u8) -> bool
 fn is_leg(leg: u8) -> bool
     ensures { result ≡ is_leg leg }
 {
-    (1..=64).contains(&leg)
+    line::is_leg(leg)
 }
 
 // The call at a reference after an event, if that belongs to its state.
@@ -140,7 +140,7 @@ fn disconnected(tables: &Tables, reference: u8) -> Result<Change, Refusal>
         None => Change::Call {
             reference,
             call,
-            gone: before.own_leg().is_some() as usize,
+            gone: usize::from(before.own_leg().is_some()),
         },
     })
 }

@@ -44,7 +44,7 @@ fn told_of_mark(tables: &Tables, conference: u8, party: Party, mark: Mark) -> To
 }
 
 impl Told {
-    // Nothing is told.
+    // Nothing is told; the other notice has no hearers, so it does not matter which it is.
     pub(crate) fn nothing() -> Told
         ensures { told_list result ≡ [] }
     {
