@@ -1,3 +1,5 @@
 pub mod Examples
 pub mod Copying
 pub mod Telling
+pub mod Conferring
+pub mod Reels

@@ -1,8 +1,8 @@
-// What writing a component answers and leaves in the memory.
+// What writing a component answers and leaves in the memory, and which messages are made.
 
 #[cfg(test)]
 mod tests {
-    use facility::{Component, Parameter, Refusal};
+    use facility::{Answer, Component, Message, Parameter, Refusal};
 
     // A drop, id 1, with these octets as its argument.
     fn drop_with(octets: &[u8]) -> Component<'_> {
@@ -64,5 +64,41 @@ mod tests {
         let one_more = drop_with(&octets[0..122]);
         assert_eq!(rt; written(one_more, &mut memory), Err(16));
         assert_eq!(rt; memory[132], 0xee);
+    }
+
+    // The result of a begin, id 7, that gave the ConferenceId 0: an element of 18 octets.
+    fn begun() -> Component<'static> {
+        Component::ReturnResult {
+            id: 7,
+            answer: Some(Answer {
+                operation: 40,
+                parameter: Parameter {
+                    octets: &[0x30, 0x03, 0x02, 0x01, 0x00],
+                    place: 0,
+                },
+            }),
+        }
+    }
+
+    #[test]
+    fn a_connect_with_a_result(rt: HostRuntime) {
+        let connect = Message::new(&[0x07], &begun()).expect(&rt, "fits");
+        assert_eq!(rt;
+            connect.octets(),
+            [
+                0x07, 0x1c, 0x10, 0x91, 0xa2, 0x0d, 0x02, 0x01, 0x07, 0x30, 0x08, 0x02, 0x01, 0x28,
+                0x30, 0x03, 0x02, 0x01, 0x00,
+            ]
+            .as_slice()
+        );
+    }
+
+    #[test]
+    fn a_message_of_23_octets_and_no_more(rt: HostRuntime) {
+        assert!(rt; Message::new(&[0x45, 0x08, 0x02, 0x82, 0x9f], &begun()).is_ok());
+        let long = Message::new(&[0; 6], &begun()).map_err(Refusal::number);
+        assert_eq!(rt; long.err(), Some(8));
+        let unreadable = Message::new(&[0; 30], &drop_with(&[])).map_err(Refusal::number);
+        assert_eq!(rt; unreadable.err(), Some(16));
     }
 }

@@ -1,5 +1,5 @@
 -- Which components read back from their octets: those that are sound and not too long. Assumes nothing.
-use Rattle.std.proofs.Common.{◌≡◌, ℕ, ◌+◌, ◌<◌, ◌≤◌, List, length, ℤ, Some, None, Ok, Err, Option, sym, refl, ◌∙◌, arith, length-append}
+use Rattle.std.proofs.Common.{◌≡◌, ℕ, ◌+◌, ◌<◌, ◌≤◌, List, ◌++◌, length, ℤ, Some, None, Ok, Err, Option, sym, refl, ◌∙◌, arith, length-append}
 use Rattle.components.specs.declared.component.Problem.{Problem}
 use Rattle.components.specs.declared.component.Problem.TheVariants as problem
 use Rattle.components.specs.declared.write.Refusal.{Refusal}
@@ -8,6 +8,7 @@ use Rattle.components.specs.Component.{Said, invoke, result, error, reject}
 use Rattle.components.specs.Reading.{by_tag}
 use Rattle.ber.specs.Structure.{bad_list, values}
 use Rattle.components.specs.Writing.{component_tag, component_contents, encoded, placed, id_octets, problem_octets, Readable, One, Sound, Sized, Written}
+use Rattle.components.specs.Message.{Composed}
 use Rattle.components.proofs.Answering.{result_reads, result_fit, reject_reads}
 use Rattle.components.proofs.Encoding.{reading_encoded}
 use Rattle.ber.proofs.Nesting.{whole_parts}
@@ -57,7 +58,12 @@ refused s memory e fits long is =
 pub one_few : (n : ℕ) (xs : List ℕ) → One n xs → length xs ≤ 129
 one_few n xs one = omega (arith, (whole_parts xs (well_whole n 0 xs one.well)).length_short, one.all)
 
--- a reject is never refused where there is room for twelve octets
+-- a message is not refused where its component is sound and its octets are few
+pub composed_fits : (head : List ℕ) (s : Said) (e : Refusal) → Sized s → Sound s → length (head ++ encoded s) ≤ 23 → Composed head s (Err e) → ⊥
+composed_fits head s Unreadable fits sound few told = told (readable_from s fits sound (omega (arith, length-append head (encoded s))))
+composed_fits head s ShortMemory fits sound few told = omega arith
+
+-- a problem has three octets
 problem_long : (why : Problem) → length (problem_octets why) ≡ 3
 problem_long (problem.General code) = refl
 problem_long (problem.Invoke code) = refl
@@ -69,9 +75,6 @@ id_long : (id : Option ℤ) → length (id_octets id) ≤ 4
 id_long None = omega arith
 id_long (Some n) = integer_long n
 
--- so that a reject always fits
-pub reject_fits : (id : Option ℤ) (why : Problem) → Sized (reject id why) → (before after : List ℕ) (e : Refusal) → 12 ≤ length before
-    → Written (reject id why) before after (Err e) → ⊥
-reject_fits id why fits before after Unreadable room told =
-    told.0 (readable_from (reject id why) fits tt (omega (arith, length-append (id_octets id) (problem_octets why), problem_long why, id_long id)))
-reject_fits id why fits before after ShortMemory room told = omega (arith, told.1, length-append (id_octets id) (problem_octets why), problem_long why, id_long id)
+-- so that a reject has at most twelve
+pub reject_long : (id : Option ℤ) (why : Problem) → length (encoded (reject id why)) ≤ 12
+reject_long id why = omega (arith, length-append (id_octets id) (problem_octets why), problem_long why, id_long id)

@@ -1,11 +1,11 @@
 -- Legs stay apart whatever is granted.
-use Rattle.std.proofs.Common.{◌≡◌, ℕ, ◌+◌, ◌≤◌, ◌==◌, ◌&&◌, not, Bool, true, false, cond, List, [], ◌∷◌, ◌++◌, filter, set, Some, None, Option, unwrap_or, refl, sym, ap, ◌∙◌, arith}
-use Rattle.std.proofs.lemmas.Bool.{false≢true}
-use Rattle.std.specs.List.{find}
+use Rattle.std.proofs.Common.{◌≡◌, ℕ, ◌+◌, ◌≤◌, ◌==◌, ◌&&◌, not, Bool, true, false, cond, [], ◌∷◌, ◌++◌, filter, set, Some, None, Option, refl, arith}
+use Rattle.std.proofs.lemmas.Bool.{eqb-true, false≢true}
+use Rattle.std.proofs.lemmas.Bool.Decides.{nat_tests}
 use Rattle.tables.specs.declared.call.Call.{Call}
 use Rattle.tables.specs.declared.call.End.TheVariants as end
 use Rattle.tables.specs.declared.call.State.{State}
-use Rattle.tables.specs.declared.call.State.TheVariants.{Absent, Calling, Idle, Held, Clearing}
+use Rattle.tables.specs.declared.call.State.TheVariants.{Idle, Clearing}
 use Rattle.tables.specs.declared.conference.Mark.{Mark}
 use Rattle.tables.specs.declared.conference.Mark.TheVariants as mark
 use Rattle.tables.specs.declared.conference.Party.{Party}
@@ -23,27 +23,16 @@ use Rattle.controller.specs.Apart.{Apart, times_up}
 use Rattle.controller.specs.Granting.{added, begun_by_setup, begun_on_call, effect_of, led_to, remarked, same_mark, split, with_found}
 use Rattle.controller.specs.Judging.{asked_size, control_of}
 use Rattle.controller.specs.Steps.{Effect}
+use Rattle.controller.proofs.Finding.{found}
 use Rattle.controller.proofs.Staying.{apart_call, apart_still, on_calls, on_calls-set, on_parties, on_parties-filter-le, on_parties-joined, on_parties-left, on_parties-marked}
 
 -- a call leads to its own leg alone
 leads_own : (k l : ℕ) (s : State) → own_leg s ≡ Some l → leads_to_leg k s ≡ (l == k)
-leads_own k l (Idle (end.Leg m)) own = ap (λ o. unwrap_or o 0 == k) own
-leads_own k l (Held (end.Leg m)) own = ap (λ o. unwrap_or o 0 == k) own
-leads_own k l (Idle (end.Conference m)) own = cc
-leads_own k l (Held (end.Conference m)) own = cc
-leads_own k l Absent own = cc
-leads_own k l Calling own = cc
-leads_own k l Clearing own = cc
+leads_own k l s own = grind (arith, nat_tests)
 
 -- a call that leads to a conference leads to no leg
-led_nowhere : (k id : ℕ) (s : State) → leads_to_leg k (led_to id s) ≡ false
-led_nowhere k id (Idle (end.Leg m)) = refl
-led_nowhere k id (Held (end.Leg m)) = refl
-led_nowhere k id (Idle (end.Conference m)) = refl
-led_nowhere k id (Held (end.Conference m)) = refl
-led_nowhere k id Absent = refl
-led_nowhere k id Calling = refl
-led_nowhere k id Clearing = refl
+pub led_to_none : (k id : ℕ) (s : State) → leads_to_leg k (led_to id s) ≡ false
+led_to_none k id s = grind arith
 
 -- a call's own leg becomes a party's
 moved : (t : Table) (r : ℕ) (c : Call) (p : Party) (k : ℕ) → own_leg (call_at t r).state ≡ Some p.leg → leads_to_leg k c.state ≡ false
@@ -55,22 +44,13 @@ moved t r c p k own none =
     let own_gone : on_calls k (set t.calls r c) + cond (p.leg == k) 1 0 ≤ on_calls k t.calls = rw before at calls in
     omega (arith, own_gone, on_parties-joined k t.parties p)
 
--- the id of a party that is found
-found_step : (b : Bool) (p : ℕ) (x q : Party) (rest : Option Party) → (x.id == p) ≡ b → cond b (Some x) rest ≡ Some q → (rest ≡ Some q → q.id ≡ p) → q.id ≡ p
-found_step true p x q rest is found later = let same : x.id ≡ p = grind arith in sym (ap (λ o. (unwrap_or o x).id) found) ∙ same
-found_step false p x q rest is found later = later found
-
-found_id : (p : ℕ) (q : Party) (ps : List Party) → find (λ x. x.id == p) ps ≡ Some q → q.id ≡ p
-found_id p q [] found = cc
-found_id p q (x ∷ ps) found = found_step (x.id == p) p x q (find (λ y. y.id == p) ps) refl found (found_id p q ps)
-
 -- a party becomes a call's leg
 moved_back : (t : Table) (r id p : ℕ) (c : Call) (q : Party) (k : ℕ) → party_with t id p ≡ Some q → leads_to_leg k c.state ≡ (q.leg == k)
     → on_calls k (set t.calls r c) + on_parties k (filter (λ x. not (x.conference == id && x.id == q.id)) t.parties) ≤ times_up t k
-moved_back t r id p c q k found leads =
-    let same : q.id ≡ p = found_id p q (parties_of t id) found in
+moved_back t r id p c q k is leads =
+    let same : q.id ≡ p = eqb-true q.id p (found (λ x. x.id == p) q (parties_of t id) is).1 in
     let calls : on_calls k (set t.calls r c) ≤ on_calls k t.calls + cond (q.leg == k) 1 0 = rw (← leads) (omega (arith, on_calls-set k r c t.calls)) in
-    rw same (omega (arith, calls, on_parties-left k id p q t.parties found))
+    rw same (omega (arith, calls, on_parties-left k id p q t.parties is))
 
 -- where what is looked up is there, and where it is not
 found_apart : {X : Type 0} (t : Table) (o : Option X) (go : X → Effect) → Apart t → ((x : X) → o ≡ Some x → Apart (go x).table) → Apart (with_found t o go).table
@@ -103,7 +83,7 @@ by_setup_apart id size r t apart =
 on_call_apart : (id size r leg : ℕ) (t : Table) → own_leg (call_at t r).state ≡ Some leg → Apart t → Apart (begun_on_call id size r leg t).table
 on_call_apart id size r leg t own apart =
     apart_still t (begun_on_call id size r leg t).table apart
-    (λ k. moved t r (record { state = led_to id (call_at t r).state; speech = (call_at t r).speech }) (record { conference = id; id = 0; leg = leg; mark = mark.Joined }) k own (led_nowhere k id (call_at t r).state))
+    (λ k. moved t r (record { state = led_to id (call_at t r).state; speech = (call_at t r).speech }) (record { conference = id; id = 0; leg = leg; mark = mark.Joined }) k own (led_to_none k id (call_at t r).state))
 
 -- a call is added
 added_apart : (id p r leg : ℕ) (t : Table) → own_leg (call_at t r).state ≡ Some leg → Apart t → Apart (added id p r leg t).table

@@ -1,5 +1,10 @@
+pub mod Finding
+pub mod Passing
 pub mod Distinct
 pub mod Room
 pub mod Staying
 pub mod Granted
 pub mod Reported
+pub mod Tellable
+pub mod Delivering
+pub mod Bodies

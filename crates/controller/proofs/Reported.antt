@@ -1,5 +1,5 @@
 -- Legs stay apart whatever is reported.
-use Rattle.std.proofs.Common.{◌≡◌, ◌||◌, cond, List, [], ◌∷◌, ℕ, ◌+◌, ◌≤◌, ◌==◌, ◌&&◌, not, Bool, true, false, Some, None, Ok, Option, Result, IfOk, length, nat_le, refl, arith}
+use Rattle.std.proofs.Common.{◌≡◌, ◌||◌, cond, List, [], ◌∷◌, ℕ, ◌+◌, ◌≤◌, ◌==◌, ◌&&◌, not, Bool, true, false, Some, None, Ok, Option, Result, IfOk, length, nat_le, refl, subst, arith}
 use Rattle.std.proofs.lemmas.Bool.{true≢false}
 use Rattle.std.proofs.lemmas.List.Sums.{sum_by-cons}
 use Rattle.std.specs.List.{count_by, list_any}
@@ -25,15 +25,22 @@ use Rattle.controller.proofs.Staying.{apart_call, apart_more, apart_still, on_pa
 abbrev LeftApart : Result Accepted Refusal → Type 0
 LeftApart r = IfOk r (λ a. Apart a.effect.table)
 
--- a report that passes the test
-unless_apart : (ok : Bool) (why : Refusal) (go : Result Accepted Refusal) → (ok ≡ true → LeftApart go) → LeftApart (unless ok why go)
-unless_apart true why go passed = passed refl
-unless_apart false why go passed = tt
+-- what holds of a report that passes the test
+pub unless_so : (P : Accepted → Type 0) (ok : Bool) (why : Refusal) (go : Result Accepted Refusal) → (ok ≡ true → IfOk go P) → IfOk (unless ok why go) P
+unless_so P true why go passed = passed refl
+unless_so P false why go passed = tt
 
--- an event that belongs to the state of the call
+-- and of an event that belongs to the state of the call
+pub event_so : (P : Accepted → Type 0) (o : Option Call) (more : Call → Result Accepted Refusal) → ((c : Call) → o ≡ Some c → IfOk (more c) P) → IfOk (by_event o more) P
+event_so P None more each = tt
+event_so P (Some c) more each = each c refl
+
+-- so it is where the legs are left apart
+unless_apart : (ok : Bool) (why : Refusal) (go : Result Accepted Refusal) → (ok ≡ true → LeftApart go) → LeftApart (unless ok why go)
+unless_apart = unless_so (λ a. Apart a.effect.table)
+
 event_apart : (o : Option Call) (more : Call → Result Accepted Refusal) → ((c : Call) → o ≡ Some c → LeftApart (more c)) → LeftApart (by_event o more)
-event_apart None more each = tt
-event_apart (Some c) more each = each c refl
+event_apart = event_so (λ a. Apart a.effect.table)
 
 -- after each event but an answer the call leads to no leg that it did not lead to
 after_calling : (k : ℕ) (old c : Call) → next_call event.Calling old ≡ Some c → leads_to_leg k c.state ≡ true → leads_to_leg k old.state ≡ true
@@ -117,7 +124,7 @@ event_only : (t : Table) (r gone : ℕ) (o : Option Call) → Apart t → ((c : 
 event_only t r gone o apart leads = unless_apart (is_reference r) OutOfRange _ (λ _. event_apart o _ (λ c is. apart_call t r c apart (leads c is)))
 
 -- whatever an accepted report does, each leg is up once at most
-pub reported_apart : (room : ℕ) (asked : Report) (t : Table) → Apart t → LeftApart (reported room asked t)
+reported_apart : (room : ℕ) (asked : Report) (t : Table) → Apart t → LeftApart (reported room asked t)
 reported_apart room (report.Calling r) t apart = event_only t r 0 _ apart (λ c is k. after_calling k (call_at t r) c is)
 reported_apart room (report.Hold r) t apart = event_only t r 0 _ apart (λ c is k. after_hold k (call_at t r) c is)
 reported_apart room (report.Retrieve r) t apart = event_only t r 0 _ apart (λ c is k. after_retrieve k (call_at t r) c is)
@@ -134,3 +141,7 @@ reported_apart room (report.Disconnect r) t apart =
 reported_apart room (report.Released r) t apart =
     unless_apart (is_reference r) OutOfRange _ (λ _. event_apart (next_call event.Released (call_at t r)) _
     (λ c is. released_apart (linked_to t r) (with_call r c t) (apart_call t r c apart (λ k. after_released k (call_at t r) c is))))
+
+-- whatever report was accepted, each leg is up once at most
+pub accepted_apart : (room : ℕ) (asked : Report) (t : Table) → Apart t → (a : Accepted) → reported room asked t ≡ Ok a → Apart a.effect.table
+accepted_apart room asked t apart a is = subst LeftApart is (reported_apart room asked t apart)

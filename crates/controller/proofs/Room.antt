@@ -1,13 +1,12 @@
 -- Where legs are apart, a call that leads to one leaves room for it as a party.
-use Rattle.std.proofs.Common.{not, is_some, ◌||◌, nat_lt, nat_le, ◌≡◌, ℕ, ◌<◌, ◌≤◌, ◌==◌, Bool, true, cond, List, [], ◌∷◌, length, get_or, Some, refl, false, sym, ◌∙◌, ap, unwrap_or, eq-eqb, suc, zero, arith}
+use Rattle.std.proofs.Common.{not, is_some, ◌||◌, nat_lt, nat_le, ◌≡◌, ℕ, ◌<◌, ◌≤◌, ◌==◌, Bool, true, cond, List, [], ◌∷◌, length, get_or, Some, refl, false, sym, ◌∙◌, suc, zero, arith}
 use Rattle.std.proofs.lemmas.List.{length-map}
 use Rattle.std.proofs.lemmas.Bool.{false≢true}
+use Rattle.std.proofs.lemmas.Bool.Decides.{nat_tests}
 use Rattle.std.specs.List.{count_by}
 use Rattle.std.proofs.lemmas.List.Sums.{sum_by-cons}
 use Rattle.tables.specs.declared.call.Call.{Call}
-use Rattle.tables.specs.declared.call.End.TheVariants as end
 use Rattle.tables.specs.declared.call.State.{State}
-use Rattle.tables.specs.declared.call.State.TheVariants.{Absent, Calling, Idle, Held, Clearing}
 use Rattle.tables.specs.declared.conference.Party.{Party}
 use Rattle.tables.specs.Calls.{absent, leads_to_conference, leads_to_leg, own_leg}
 use Rattle.tables.specs.Table.{Table, call_at, legs_of}
@@ -22,15 +21,13 @@ counted p [] r d fails passes = absurd (false≢true (sym fails ∙ passes))
 counted p (x ∷ xs) zero d fails passes = grind (arith, sum_by-cons (λ y. cond (p y) 1 0) x xs)
 counted p (x ∷ xs) (suc r) d fails passes = grind (arith, sum_by-cons (λ y. cond (p y) 1 0) x xs, counted p xs r d fails passes)
 
--- a call whose own leg is k leads to k
-leads : (k : ℕ) (s : State) → own_leg s ≡ Some k → leads_to_leg k s ≡ true
-leads k (Idle (end.Leg l)) own = eq-eqb l k (ap (λ o. unwrap_or o 0) own)
-leads k (Held (end.Leg l)) own = eq-eqb l k (ap (λ o. unwrap_or o 0) own)
-leads k (Idle (end.Conference l)) own = cc
-leads k (Held (end.Conference l)) own = cc
-leads k Absent own = cc
-leads k Calling own = cc
-leads k Clearing own = cc
+-- a call leads to its own leg
+pub own_leads : (s : State) (k : ℕ) → own_leg s ≡ Some k → leads_to_leg k s ≡ true
+own_leads s k own = grind (arith, nat_tests)
+
+-- so that leg is up on a call
+pub own_up : (t : Table) (r k : ℕ) → own_leg (call_at t r).state ≡ Some k → 1 ≤ count_by (λ c. leads_to_leg k c.state) t.calls
+own_up t r k own = counted (λ c. leads_to_leg k c.state) t.calls r absent refl (own_leads (call_at t r).state k own)
 
 -- a leg's parties are counted by their legs
 times-legs : (k : ℕ) (ps : List Party) → times k (legs_of ps) ≡ count_by (λ p. p.leg == k) ps
@@ -40,7 +37,7 @@ times-legs k (p ∷ ps) = grind (arith, times-cons k p.leg (legs_of ps), sum_by-
 -- a leg that a call leads to is no party's
 pub room_for_party : (t : Table) (r k : ℕ) → Apart t → own_leg (call_at t r).state ≡ Some k → length t.parties < 64
 room_for_party t r k apart own =
-    let on_call : 1 ≤ count_by (λ c. leads_to_leg k c.state) t.calls = counted (λ c. leads_to_leg k c.state) t.calls r absent refl (leads k (call_at t r).state own) in
+    let on_call = own_up t r k own in
     let up : 1 ≤ times_up t k = omega (arith, on_call) in
     let none : times k (legs_of t.parties) ≡ 0 = rw times-legs (omega (arith, on_call, apart.once k)) in
     let fewer : length (legs_of t.parties) < 64 =

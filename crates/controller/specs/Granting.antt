@@ -25,11 +25,6 @@ use Rattle.controller.specs.Steps.{Effect, each, others}
 abbrev pub nothing : Table → Effect
 nothing t = record { table = t; told = []; gone = 0 }
 
--- what is known of the ids that a granted request gives: a ConferenceId, and a PartyId
-pub record Ids : Type 0 where
-  pub conference : ℕ
-  pub party : ℕ
-
 -- the call leads to a conference now, idle or held as it was
 abbrev pub led_to : ℕ → State → State
 led_to id (Held to) = Held (end.Conference id)

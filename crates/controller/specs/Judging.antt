@@ -20,6 +20,11 @@ pub data Verdict : Type 0 where
   failed : (error : ℕ) → Verdict
   rejected : (problem : ℕ) → Verdict
 
+-- neither an error nor a reject
+abbrev pub is_granted : Verdict → Bool
+is_granted granted = true
+is_granted _ = false
+
 -- the first test that holds says what is wrong
 abbrev pub first_wrong : List (Bool × Verdict) → Verdict
 first_wrong [] = granted

@@ -6,4 +6,8 @@ pub mod Verdicts
 pub mod Granting
 pub mod Apart
 pub mod Deeds
+pub mod Telling
 pub mod Replies
+pub mod Outcomes
+pub mod Given
+pub mod Discs

@@ -1,5 +1,5 @@
 -- The message body that answers a request. Assumes nothing.
-use Rattle.std.specs.Prelude.{ℕ, ℤ, pos, cond, List, [], ◌∷◌, ◌++◌, length, Some, None, Option}
+use Rattle.std.specs.Prelude.{ℕ, ℤ, pos, Bool, cond, ◌&&◌, nat_lt, List, [], ◌∷◌, ◌++◌, length, Some, None, Option}
 use Rattle.std.specs.Option.{unwrap_or}
 use Rattle.components.specs.declared.component.Problem.TheVariants as problem
 use Rattle.components.specs.Component.{Said, result, error, reject}
@@ -16,7 +16,7 @@ use Rattle.facility.specs.Requests.{number_octets}
 use Rattle.controller.specs.declared.carrier.Carrier.{Carrier}
 use Rattle.controller.specs.declared.carrier.Carrier.TheVariants.{Facility, Setup}
 use Rattle.controller.specs.Granting.{effect_of, nothing}
-use Rattle.controller.specs.Judging.{Verdict, granted, failed, rejected, in_use, verdict}
+use Rattle.controller.specs.Judging.{Verdict, granted, failed, rejected, is_granted, in_use, verdict}
 use Rattle.controller.specs.Steps.{Effect}
 
 -- a value of a result, wherever it will lie
@@ -31,18 +31,23 @@ abbrev pub party_given : Table → Option Conference → ℕ
 party_given t None = 0
 party_given t (Some c) = unwrap_or (next_party t c) 0
 
--- the result: a begin has the ConferenceId, and behind it the PartyId of the call in progress; an add has the PartyId
-abbrev pub result_of : Carrier → Request → ℤ → Table → Said
-result_of (Setup r speech) (request.Begin size) id t = result id (Some (pos 40, value (tagged 0x30 (number_octets (conference_given t)))))
-result_of (Facility r) (request.Begin size) id t = result id (Some (pos 40, value (tagged 0x30 (number_octets (conference_given t) ++ number_octets 0))))
-result_of (Facility r) (request.Add c) id t = result id (Some (pos 41, value (number_octets (party_given t (conference_with t c)))))
-result_of carrier _ id t = result id None
+-- what a result has, with the operation that it answers: a begin the ConferenceId, and behind it the PartyId of the call in
+-- progress; an add the PartyId; the others nothing
+abbrev pub ids_given : Carrier → Request → Table → Option (ℤ × Part)
+ids_given (Setup r speech) (request.Begin size) t = Some (pos 40, value (tagged 0x30 (number_octets (conference_given t))))
+ids_given (Facility r) (request.Begin size) t = Some (pos 40, value (tagged 0x30 (number_octets (conference_given t) ++ number_octets 0)))
+ids_given (Facility r) (request.Add c) t = Some (pos 41, value (number_octets (party_given t (conference_with t c))))
+ids_given carrier _ t = None
 
--- the component: the result, a return error without parameter, or a reject
+-- the component by a verdict: a result with the ids given, a return error without parameter, or a reject
+abbrev pub component_of : ℤ → Option (ℤ × Part) → Verdict → Said
+component_of id ids granted = result id ids
+component_of id ids (failed code) = error id (pos code) None
+component_of id ids (rejected code) = reject (Some id) (problem.Invoke code)
+
+-- the component that answers a request
 abbrev pub reply : Carrier → RequestInvoke → Table → Verdict → Said
-reply carrier asked t granted = result_of carrier asked.request asked.id t
-reply carrier asked t (failed code) = error asked.id (pos code) None
-reply carrier asked t (rejected code) = reject (Some asked.id) (problem.Invoke code)
+reply carrier asked t v = component_of asked.id (ids_given carrier asked.request t) v
 
 -- cause 31, normal, unspecified, of the public network that serves the local user
 abbrev pub cause : List ℕ
@@ -84,6 +89,12 @@ abbrev pub settled : Level → ℕ → Carrier → RequestInvoke → Table → S
 settled level room carrier asked t =
     let e = effect_of level carrier asked.request t in
     settled_as carrier asked t e (verdict level t room (length e.told) carrier asked.request)
+
+-- want of room stops a request: with the room that it needs it would be granted, and there is less
+abbrev pub lacks_room : Level → ℕ → Carrier → Request → Table → Bool
+lacks_room level room carrier asked t =
+    let needed = length (effect_of level carrier asked t).told in
+    nat_lt room needed && is_granted (verdict level t needed needed carrier asked)
 
 -- turned away: FACILITY with a reject, and nothing is done
 abbrev pub turned_away : RequestInvoke → List ℕ

@@ -86,6 +86,16 @@ leg_cleared room t (Some r) q = by_event (next_call event.RemoteClearing (call_a
 leg_cleared room t None (Some p) = unless (nat_le (length (others t p.conference p.id)) room) NoRoom (Ok (party_cleared t p (conference_with t p.conference)))
 leg_cleared room t None None = Err WrongLeg
 
+-- the reference and the leg that a report names are in range
+abbrev pub in_range : Report → Bool
+in_range (report.Calling r) = is_reference r
+in_range (report.Answer r leg speech) = is_reference r && is_leg leg
+in_range (report.Hold r) = is_reference r
+in_range (report.Retrieve r) = is_reference r
+in_range (report.RemoteClearing leg) = is_leg leg
+in_range (report.Disconnect r) = is_reference r
+in_range (report.Released r) = is_reference r
+
 -- what each report does: first a number out of range is refused, then a wrong state, then a wrong leg, then a line without room
 abbrev pub reported : ℕ → Report → Table → Result Accepted Refusal
 reported room (report.Calling r) t =

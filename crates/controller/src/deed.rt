@@ -4,7 +4,7 @@ ghost use Rattle.controller.specs.Apart.{Apart};
 ghost use Rattle.controller.specs.Deeds.{HasRoom, deed_effect, found_effect};
 ghost use Rattle.controller.specs.Granting.{effect_of, with_found};
 ghost use Rattle.controller.specs.Judging.{control_of, granted, operation_verdict};
-ghost use Rattle.tables.specs.Table.{party_with};
+ghost use Rattle.tables.specs.Table.{Table, party_with};
 
 use crate::carrier::Carrier;
 use crate::judging::{asked_size, control_of};
@@ -149,6 +149,16 @@ impl Deed {
         match carrier {
             Carrier::Facility { reference } => by_facility(level, reference, request, tables),
             Carrier::Setup { reference, .. } => by_setup(level, reference, request, tables),
+        }
+    }
+
+    // How many legs are gone by it.
+    pub(crate) fn gone(self) -> usize
+        ensures { (t : Table) → result ≡ (deed_effect t self).gone }
+    {
+        match self {
+            Deed::Drop { .. } => 1,
+            _ => 0,
         }
     }
 }

@@ -5,15 +5,23 @@
 
 mod carrier;
 mod change;
+mod composing;
+mod controller;
 mod deed;
 mod disc;
+mod doing;
 mod granting;
 mod judging;
+mod pending;
+mod replying;
 mod report;
 mod reporting;
 mod told;
 mod verdict;
 
 pub use carrier::Carrier;
+pub use controller::Controller;
 pub use disc::Disc;
-pub use report::Report;
+pub use pending::{PendingReply, Reply};
+pub use report::{Acceptance, Report};
+pub use reporting::is_reference;

@@ -1,4 +1,9 @@
-// What the exchange reports.
+// What the exchange reports, and what it is answered.
+ghost use Rattle.std.specs.Prelude.{◌≡◌};
+ghost use Rattle.controller.specs.Reports.{in_range};
+
+use crate::disc::Disc;
+use crate::reporting::{is_leg, is_reference};
 
 #[derive(Clone, Copy, PartialEq, Eq, Debug)]
 pub enum Report {
@@ -26,4 +31,28 @@ pub enum Report {
     Released {
         reference: u8,
     },
+}
+
+impl Report {
+    // Whether there is such a reference, and such a leg.
+    pub fn in_range(self) -> bool
+        ensures { result ≡ in_range self }
+    {
+        match self {
+            Report::Answer { reference, leg, .. } => is_reference(reference) && is_leg(leg),
+            Report::RemoteClearing { leg } => is_leg(leg),
+            Report::Calling { reference }
+            | Report::Hold { reference }
+            | Report::Retrieve { reference }
+            | Report::Disconnect { reference }
+            | Report::Released { reference } => is_reference(reference),
+        }
+    }
+}
+
+// What an accepted report answers: how many legs are gone, and the PartyDISC that is to be sent, if any.
+#[derive(Clone, Copy, PartialEq, Eq, Debug)]
+pub struct Acceptance {
+    pub gone: usize,
+    pub disc: Option<Disc>,
 }

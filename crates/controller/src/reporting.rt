@@ -15,14 +15,14 @@ use crate::told::Told;
 use tables::{Call, Conference, Event, Party, Phase, Refusal, Tables};
 
 // Whether there is such a call reference.
-fn is_reference(reference: u8) -> bool
+pub fn is_reference(reference: u8) -> bool
     ensures { result ≡ is_reference reference }
 {
     (1..=127).contains(&reference)
 }
 
 // Whether there is such a leg.
-fn is_leg(leg: u8) -> bool
+pub(crate) fn is_leg(leg: u8) -> bool
     ensures { result ≡ is_leg leg }
 {
     line::is_leg(leg)

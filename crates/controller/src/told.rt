@@ -1,11 +1,14 @@
 // What is told, and to whom.
+ghost use Rattle.std.specs.Option.{option_to_list};
 ghost use Rattle.std.specs.Prelude.{◌≡◌, [], length};
 ghost use Rattle.controller.specs.Deeds.{deed_effect, told_list};
 ghost use Rattle.controller.specs.Steps.{each, others};
+ghost use Rattle.controller.specs.Telling.{Delivered, Tellable};
+ghost use Rattle.tables.specs.Table.{legs_of};
 
 use crate::deed::Deed;
 use arrayvec::ArrayVec;
-use line::Notice;
+use line::{Line, Notice, tell_each};
 use tables::{Mark, Party, Tables};
 
 // First a notice to a leg of its own, if there is one, and then another to each of the hearers.
@@ -43,6 +46,36 @@ fn told_of_mark(tables: &Tables, conference: u8, party: Party, mark: Mark) -> To
     }
 }
 
+// The legs of some parties, in their order.
+fn legs_of(parties: &ArrayVec<Party, 64>) -> ArrayVec<u8, 64>
+    ensures { result.items ≡ legs_of parties.now.items }
+{
+    let mut legs = ArrayVec::new();
+    let all = parties.as_slice();
+    for party in all {
+        legs.push(party.leg);
+    }
+    legs
+}
+
+// Tells a notice to a leg, if there is one to tell.
+fn tell_own<L: Line>(own: Option<(u8, Notice)>, line: &mut L)
+    requires { Tellable (option_to_list own) (L.room line.old) }
+    ensures { Delivered (option_to_list own) (L.standing line.old) (L.standing line.new) (L.room line.old) (L.room line.new) }
+{
+    if let Some((leg, notice)) = own {
+        line.tell(leg, notice).unwrap();
+    }
+}
+
+// Tells a notice to each of some parties.
+fn tell_parties<L: Line>(parties: &ArrayVec<Party, 64>, notice: Notice, line: &mut L)
+    requires { Tellable (each notice parties.now.items) (L.room line.old) }
+    ensures { Delivered (each notice parties.now.items) (L.standing line.old) (L.standing line.new) (L.room line.old) (L.room line.new) }
+{
+    tell_each(line, &legs_of(parties), notice).unwrap();
+}
+
 impl Told {
     // Nothing is told; the other notice has no hearers, so it does not matter which it is.
     pub(crate) fn nothing() -> Told
@@ -64,6 +97,15 @@ impl Told {
             other: Notice::OtherDisconnected,
             hearers: others(tables, conference, party),
         }
+    }
+
+    // Tells it all on a line that has room for it.
+    pub(crate) fn tell<L: Line>(&self, line: &mut L)
+        requires { Tellable (told_list self.now) (L.room line.old) }
+        ensures { Delivered (told_list self.now) (L.standing line.old) (L.standing line.new) (L.room line.old) (L.room line.new) }
+    {
+        tell_own(self.own, line);
+        tell_parties(&self.hearers, self.other, line);
     }
 
     // How many notices are told.

@@ -1,3 +1,2 @@
 pub mod Cutting
-pub mod Reading
 pub mod Standing

@@ -1,3 +1,2 @@
 pub mod Account
 pub mod Lines
-pub mod Spelling

@@ -1,27 +1,11 @@
 // How an account of octets is printed: what they say as an element, or their fault.
 ghost use Rattle.std.specs.Prelude.{Some};
 ghost use Rattle.std.specs.Fmt.{WritesOnOk};
-ghost use Rattle.decode.specs.Account.{fault_account, invoked, reading_account};
+ghost use Rattle.decode.specs.Account.{invoked, reading_account};
 ghost use Rattle.components.specs.Reading.{reading};
 
-use facility::{Component, Fault, Pairs, read_element, read_request};
+use facility::{Component, Replied, read_element, read_request};
 use std::fmt;
-
-// A fault, and the reply of the exchange where there is one.
-#[derive(Clone, Copy)]
-struct Replied(Fault);
-
-impl fmt::Display for Replied {
-    ghost output = { λ r. Some (fault_account r.0) };
-
-    fn fmt<W: fmt::Write>(&self, f: &mut fmt::Formatter<W>) -> fmt::Result {
-        let fault = self.0;
-        match fault.reply() {
-            Some(message) => write!(f, "{fault} reply{}", Pairs(message.octets())),
-            None => write!(f, "{fault}"),
-        }
-    }
-}
 
 // The request that an invoke makes, or its fault, on a line of its own.
 fn write_invoked<W: fmt::Write>(f: &mut fmt::Formatter<W>, octets: &[u8]) -> fmt::Result

@@ -1,5 +1,5 @@
 -- Each request is made by one element, and by no other. Assumes nothing.
-use Rattle.std.proofs.Common.{◌≡◌, true, ℕ, ◌≤◌, List, ◌++◌, length, take, drop, ℤ, pos, negsuc, Some, None, Ok, Option, Result, sym, refl, ap, ◌∙◌, arith, lit<, w16, SFits}
+use Rattle.std.proofs.Common.{◌≡◌, true, ℕ, ◌≤◌, List, ◌++◌, length, take, drop, ℤ, pos, negsuc, Some, None, Ok, Err, Option, Result, subst, sym, refl, ap, ◌∙◌, arith, lit<, w16, SFits}
 use Rattle.std.specs.Option.{option_map}
 use Rattle.std.proofs.lemmas.List.{take-append-drop}
 use Rattle.std.proofs.lemmas.Bool.Decides.{nat_tests}
@@ -8,13 +8,16 @@ use Rattle.facility.specs.declared.request.Operation.{Operation}
 use Rattle.facility.specs.declared.request.Operation.TheVariants as operation
 use Rattle.facility.specs.declared.request.Request.{Request}
 use Rattle.facility.specs.declared.request.RequestInvoke.{RequestInvoke}
+use Rattle.components.specs.declared.write.Refusal.{Refusal}
+use Rattle.components.specs.declared.write.Refusal.TheVariants.{Unreadable, ShortMemory}
 use Rattle.components.specs.Component.{Said, invoke}
 use Rattle.components.specs.Reading.{reading}
-use Rattle.facility.specs.Requests.{number_octets, a_number, two_numbers, operation_of, asks, octets_in, by_operation, requested, requesting, request_code, request_argument, request_octets, InRange, Lawful}
+use Rattle.facility.specs.Requests.{number_octets, a_number, two_numbers, operation_of, asks, octets_in, by_operation, requested, requesting, request_code, request_argument, request_said, request_octets, InRange, Lawful}
+use Rattle.facility.specs.Writing.{Wrote}
 use Rattle.ber.specs.Structure.{Part, first_bad, bad_value}
 use Rattle.components.specs.Typed.{and_then}
 use Rattle.ber.specs.Value.{is_tagged, tagged}
-use Rattle.components.specs.Writing.{optional_octets, component_contents, encoded, moved, One, Fit}
+use Rattle.components.specs.Writing.{optional_octets, component_contents, encoded, moved, One, Fit, Readable, Written}
 use Rattle.ber.proofs.Nesting.{value_plain}
 use Rattle.ber.proofs.Numbers.{tagged_is}
 use Rattle.components.proofs.ReadBack.{readable_from}
@@ -49,14 +52,18 @@ component_asks : (end p : ℕ) (id : ℤ) (r : Request) → InRange r
     → by_operation end id (option_map (moved p) (argument_part (request_argument r))) (operation_of (pos (request_code r))) ≡ Ok (record { id = id; request = r })
 component_asks end p id r fits = grind (arith, nat_tests)
 
--- whoever answers what octets request answers the request that they are of
-pub request_every : (xs : List ℕ) (a : RequestInvoke) (answer : Result RequestInvoke Fault) → Lawful a → xs ≡ request_octets a → answer ≡ requesting xs → answer ≡ Ok a
-request_every xs a answer lawful is answer_is =
+-- the component of a request reads back
+pub request_reads : (a : RequestInvoke) → Lawful a → Readable (request_said a)
+request_reads a lawful =
     let r = a.request in
     let s = invoke a.id (pos (request_code r)) (argument_part (request_argument r)) in
     let few : length (component_contents s) ≤ 127 = grind (arith, integer_long, argument_short) in
-    let reads = ap reading is ∙ readable_from s (lawful.0, code_fits r) (argument_fits r) few in
-    answer_is ∙ ap (λ t. and_then t (requested (length xs))) reads ∙ component_asks (length xs) _ a.id r lawful.1
+    readable_from s (lawful.0, code_fits r) (argument_fits r) few
+
+-- whoever answers what octets request answers the request that they are of
+pub request_every : (xs : List ℕ) (a : RequestInvoke) (answer : Result RequestInvoke Fault) → Lawful a → xs ≡ request_octets a → answer ≡ requesting xs → answer ≡ Ok a
+request_every xs a answer lawful is answer_is =
+    answer_is ∙ ap (λ t. and_then t (requested (length xs))) (ap reading is ∙ request_reads a lawful) ∙ component_asks (length xs) _ a.id a.request lawful.1
 
 -- a number that was read
 number_was : (xs : List ℕ) (n : ℕ) → a_number xs ≡ Some n → (xs ≡ number_octets n) × (n ≤ 127)
@@ -100,3 +107,14 @@ request_was s id code o op r s_is fits op_is r_is =
     let code_is = known.code_is in
     let octets = same_octets o r known.argument_is in
     ((fits, known.in_range), cc)
+
+-- writing the component of a request writes the request
+pub request_written : (a : RequestInvoke) (s : Said) (before after : List ℕ) (r : Result ℕ Refusal) → Lawful a → s ≡ request_said a → Written s before after r → Wrote a before after r
+request_written a s before after r lawful is told =
+    let P : Said → Type 0 = λ t. Written t before after r in
+    by r (subst P is told)
+  where
+    by : (r : Result ℕ Refusal) → Written (request_said a) before after r → Wrote a before after r
+    by (Ok n) told = (lawful, told.1, told.2)
+    by (Err Unreadable) told = absurd (told.0 (request_reads a lawful))
+    by (Err ShortMemory) told = (lawful, told.1, told.2)

@@ -97,9 +97,12 @@ request_argument (request.Drop party) = Some (number_octets party)
 request_argument (request.Isolate party) = Some (number_octets party)
 request_argument (request.Reattach party) = Some (number_octets party)
 
--- the element that makes a request, and no other does
+-- the component of a request, and the element that makes it, as no other does
+abbrev pub request_said : RequestInvoke → Said
+request_said r = invoke r.id (pos (request_code r.request)) (option_map (λ xs. record { octets = xs; place = 0 }) (request_argument r.request))
+
 abbrev pub request_octets : RequestInvoke → List ℕ
-request_octets r = encoded (invoke r.id (pos (request_code r.request)) (option_map (λ xs. record { octets = xs; place = 0 }) (request_argument r.request)))
+request_octets r = encoded (request_said r)
 
 -- the numbers of a request are from 0 to 127
 abbrev pub InRange : Request → Type 0

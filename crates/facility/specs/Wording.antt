@@ -1,5 +1,8 @@
--- The text of a request. Assumes nothing.
-use Rattle.std.specs.Prelude.{ℕ, List, ◌++◌, Some, None, codes, decimal, Option}
+-- The text of a request, and of a fault with its reply. Assumes nothing.
+use Rattle.std.specs.Prelude.{ℕ, List, [], ◌++◌, Some, None, codes, decimal, Option}
+use Rattle.components.specs.Message.{reply_octets}
+use Rattle.components.specs.Wording.{fault_text, pairs}
+use Rattle.components.specs.declared.fault.Fault.{Fault}
 use Rattle.facility.specs.declared.request.Request.{Request}
 use Rattle.facility.specs.declared.request.Request.TheVariants.{Begin, Add, Split, Drop, Isolate, Reattach}
 
@@ -15,3 +18,12 @@ request_text (Split conference party) =
 request_text (Drop party) = codes "drop party " ++ decimal party
 request_text (Isolate party) = codes "isolate party " ++ decimal party
 request_text (Reattach party) = codes "reattach party " ++ decimal party
+
+-- the octets of a reply, if there is one
+abbrev pub reply_text : Option (List ℕ) → List ℕ
+reply_text None = []
+reply_text (Some octets) = codes " reply" ++ pairs octets
+
+-- a fault and its reply
+abbrev pub replied_text : Fault → List ℕ
+replied_text f = fault_text f ++ reply_text (reply_octets f.cause)

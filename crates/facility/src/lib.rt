@@ -6,9 +6,11 @@
 
 mod request;
 mod text;
+mod write;
 
 pub use components::{
     Answer, Cause, Component, Fault, Layer, Message, Pairs, Parameter, Problem, Refusal,
     read_element,
 };
 pub use request::{Request, RequestInvoke, read_request};
+pub use text::Replied;

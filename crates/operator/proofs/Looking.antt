@@ -40,7 +40,7 @@ known legs ps q ok is = go (legs q.leg) refl (subst (λ l. In q l) (ok q.leg) (i
     go (party c p j b) is (inr at) = absurd at
 
 -- a party has a leg that there is
-pub leg_of : (legs : ℕ → Entry) (ps : List Party) (q : Party) → Ranged legs → Parties legs ps → In q ps → Leg q.leg
+leg_of : (legs : ℕ → Entry) (ps : List Party) (q : Party) → Ranged legs → Parties legs ps → In q ps → Leg q.leg
 leg_of legs ps q ranged ok is = let k = known legs ps q ok is in ranged q.leg (ap is_up k.entry)
 
 -- a sum of ones is a count

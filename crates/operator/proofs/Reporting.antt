@@ -20,11 +20,12 @@ use Rattle.tables.specs.Table.{Table, call_at, linked_to, conference_with, parti
 use Rattle.controller.specs.Reports.{Accepted, quiet, unless, by_event, reported, disconnected, leg_gone, released, leg_cleared, party_cleared, disc_for, with_sent}
 use Rattle.controller.specs.declared.disc.Disc.{Disc}
 use Rattle.controller.specs.Steps.{is_reference, is_leg, is_up, leads_to_leg, others}
+use Rattle.controller.specs.Telling.{Heard}
 use Rattle.controller.specs.declared.report.Report.{Report}
 use Rattle.controller.specs.declared.report.Report.TheVariants as report
-use Rattle.operator.specs.declared.step.Step.TheVariants as step
+use Rattle.operator.specs.declared.steps.Step.TheVariants as step
 use Rattle.operator.specs.Roster.{down, party, is_in, is_on, is_up as is_up', Roster, written, counted, struck, ended}
-use Rattle.operator.specs.Turns.{Heard, report_turn}
+use Rattle.operator.specs.Turns.{report_turn}
 use Rattle.operator.proofs.Holding.{Kept}
 use Rattle.operator.proofs.Keeping.{counted_none, kept_same, kept_call, kept_up, kept_down, kept_phase, kept_gone, kept_ended, with_legs, changed_at, placed_at, changed_nowhere, leads_on, alone_on}
 use Rattle.operator.proofs.Conferring.{found_linked, none_linked, linked_there}
@@ -33,7 +34,7 @@ use Rattle.operator.proofs.Looking.{not_up, known}
 
 -- whatever fitted before a report fits after it, if this is what becomes of it
 abbrev pub Fits : Report → Roster → Table → Standings → Standings → Result Accepted Refusal → Type 0
-Fits r roster t s s' what = Heard (report_turn what t).effect s s' → Kept (written (step.Reported r) (report_turn what t).answer roster) (report_turn what t).effect.table s'
+Fits r roster t s s' what = Heard (report_turn what t).effect.told s s' → Kept (written (step.Reported r) (report_turn what t).answer roster) (report_turn what t).effect.table s'
 
 -- a refusal changes nothing
 refused_fits : (rep : Report) (r : Roster) (t : Table) (s s' : Standings) (why : Refusal) → Kept r t s → Fits rep r t s s' (Err why)

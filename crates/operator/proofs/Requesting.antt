@@ -1,16 +1,18 @@
 -- Roster, table and standings go on fitting after a request is settled.
-use Rattle.std.proofs.Common.{◌≡◌, ℕ, ℤ, pos, ◌≤◌, ◌<◌, ◌≢◌, Bool, true, false, cond, eqb, leb, ltb, not, ◌||◌, List, [], ◌∷◌, ◌++◌, length, map, Some, None, Option, refl, subst, ap, ◌∙◌, sym, arith}
+use Rattle.std.proofs.Common.{◌≡◌, ℕ, ℤ, pos, ◌≤◌, ◌<◌, ◌≢◌, Bool, true, false, cond, eqb, leb, ltb, not, ◌||◌, List, ◌∷◌, ◌++◌, length, map, Some, None, Option, refl, subst, ap, ◌∙◌, sym, arith}
 use Rattle.std.proofs.lemmas.List.{length-map}
 use Rattle.std.specs.List.{find}
 use Rattle.std.specs.Option.{is_some, unwrap_or}
 use Rattle.std.proofs.lemmas.Option.{same_Some, none-some}
-use Rattle.std.proofs.lemmas.Bool.Decides.{nat_tests}
 use Rattle.std.proofs.lemmas.Bool.{eq-eqb, eqb-true, eqb-false, leb-false, ltb-false, true≢false, or_parts, not-false}
 use Rattle.line.specs.Meaning.{Standings}
 use Rattle.line.specs.declared.notice.Notice.{Notice}
 use Rattle.line.specs.declared.notice.Notice.TheVariants.{Isolated, Reattached, OtherIsolated, OtherReattached}
 use Rattle.line.specs.declared.standing.Standing.{Standing}
 use Rattle.line.specs.Notices.{after}
+use Rattle.controller.proofs.Granted.{led_to_none}
+use Rattle.controller.proofs.Passing.{carrier_free, operation_granted}
+use Rattle.controller.proofs.Room.{own_leads}
 use Rattle.operator.specs.Company.{is_isolated}
 use Rattle.tables.specs.Edits.{with_marked}
 use Rattle.components.specs.Component.{result}
@@ -29,12 +31,13 @@ use Rattle.tables.specs.Table.{Table, call_at, conference_with, parties_of, part
 use Rattle.controller.specs.declared.carrier.Carrier.{Carrier}
 use Rattle.controller.specs.declared.carrier.Carrier.TheVariants.{Facility, Setup}
 use Rattle.controller.specs.Granting.{nothing, next_conference, next_party, new_conference, led_to, own_leg, begun_by_setup, begun_on_call, added, split, dropped, remarked, same_mark, with_found, effect_of}
-use Rattle.controller.specs.Judging.{Verdict, granted, failed, rejected, first_wrong, and_then, operation_verdict, verdict, in_use, is_absent, is_open, is_full, in_progress, leads_to_conference, control_of, controlled, no_party, reference_of, carries, asked_size, control_party}
-use Rattle.controller.specs.Replies.{settled, settled_as, head, reply, result_of, value, connect, facility, disconnect, party_given}
-use Rattle.controller.specs.Steps.{Effect, leads_to_leg, each, others}
-use Rattle.operator.specs.declared.step.Step.TheVariants as step
+use Rattle.controller.specs.Judging.{Verdict, granted, failed, rejected, operation_verdict, verdict, in_use, is_absent, is_open, is_full, in_progress, leads_to_conference, control_of, controlled, no_party, reference_of, asked_size, control_party}
+use Rattle.controller.specs.Replies.{settled, settled_as, head, ids_given, reply, value, connect, facility, disconnect, party_given}
+use Rattle.controller.specs.Steps.{Effect, each, others}
+use Rattle.controller.specs.Telling.{Heard}
+use Rattle.operator.specs.declared.steps.Step.TheVariants as step
 use Rattle.operator.specs.Roster.{down, on, party, is_on, is_party, Roster, written, counted, changed, joins, isolated_as, linked, of_linked, from_last, members, accepts}
-use Rattle.operator.specs.Turns.{Heard, replied}
+use Rattle.operator.specs.Turns.{replied}
 use Rattle.operator.proofs.Attending.{kept_added, kept_begun_on, kept_begun, kept_split, kept_marked, kept_marked_so, kept_dropped, none_there}
 use Rattle.operator.proofs.Circling.{Free, free_id}
 use Rattle.operator.proofs.Conferring.{linked_there, in_mapped}
@@ -44,21 +47,13 @@ use Rattle.operator.proofs.Lists.{In, in_found, in_filtered, none_found}
 use Rattle.operator.proofs.Looking.{known, Known, parties_counted}
 use Rattle.operator.proofs.Reading.{not_accepted, not_accepted_either, setup_id, begun_conference, begun_party, added_party}
 
--- what passes judgement passed each test
-both_granted : (a b : Verdict) → and_then a b ≡ granted → (a ≡ granted) × (b ≡ granted)
-both_granted a b is = grind arith
-
--- so it is of a test that answers with an error
+-- what passes judgement passed each test that answers with an error
 not_failed : (c : Bool) (n : ℕ) (v : Verdict) → cond c (failed n) v ≡ granted → (c ≡ false) × (v ≡ granted)
 not_failed c n v is = grind arith
 
--- and of one that answers with a reject
-not_rejected : (c : Bool) (n : ℕ) (v : Verdict) → cond c (rejected n) v ≡ granted → (c ≡ false) × (v ≡ granted)
-not_rejected c n v is = grind arith
-
 -- what is settled so goes on fitting
 abbrev pub SettledSo : Carrier → RequestInvoke → Roster → Table → Standings → Standings → List ℕ → Effect → Type 0
-SettledSo carrier asked r t s s' body e = Heard e s s' → Kept (written (step.Settled carrier asked) (replied body e.gone) r) e.table s'
+SettledSo carrier asked r t s s' body e = Heard e.told s s' → Kept (written (step.Settled carrier asked) (replied body e.gone) r) e.table s'
 
 -- an id in use is that of one in the list
 used_in : {X : Type 0} (f : X → ℕ) (xs : List X) (i : ℕ) → is_some (find (λ x. eqb (f x) i) xs) ≡ true → In i (map f xs)
@@ -88,10 +83,6 @@ unlinked links cs id linked none q is =
 absent_is : (st : State) → is_absent st ≡ true → st ≡ Absent
 absent_is st is = grind arith
 
--- a call leads to its own leg
-pub own_leads : (st : State) (l : ℕ) → own_leg st ≡ Some l → leads_to_leg l st ≡ true
-own_leads st l is = grind (arith, nat_tests)
-
 -- a call with a leg of its own is no link
 own_unlinked : (st : State) (l : ℕ) (o : Option ℕ) → own_leg st ≡ Some l → Led st o → o ≡ None
 own_unlinked st l o is led = grind arith
@@ -103,10 +94,6 @@ own_there st progress none is = grind arith
 -- a call that leads to a conference is its link
 link_led : (st : State) (m : ℕ) (o : Option ℕ) → leads_to_conference st ≡ Some m → Led st o → o ≡ Some m
 link_led st m o is led = grind arith
-
--- once it leads to a conference, it leads to no leg
-led_to_none : (k id : ℕ) (st : State) → leads_to_leg k (led_to id st) ≡ false
-led_to_none k id st = grind arith
 
 -- and it is the link of that conference
 led_to_led : (id : ℕ) (st : State) → Led (led_to id st) (Some id)
@@ -172,7 +159,7 @@ added_at r t s s' id ref to d o own lt found some owns there is kept =
         let same_p : free.id ≡ p = same_Some free.id p (sym free.found ∙ is) in
         let fresh = none_there (party_with t d.id p) (subst (λ x. is_some (party_with t d.id x) ≡ false) same_p free.free) in
         let was = leads_on r.legs r.links t.calls l ref kept.holds.calls_fit (own_leads (call_at t ref).state l owns) in
-        let done = subst (λ x. Heard (added x p ref l t) s s' → Kept (counted 0 0 (changed (is_on ref) (joins x p r.legs) r)) (added x p ref l t).table s') same (λ tells. kept_added s' l ref p d _ lt was at some fresh refl tells kept) in
+        let done = subst (λ x. Heard (added x p ref l t).told s s' → Kept (counted 0 0 (changed (is_on ref) (joins x p r.legs) r)) (added x p ref l t).table s') same (λ tells. kept_added s' l ref p d _ lt was at some fresh refl tells kept) in
         subst (λ x. Kept (counted 0 0 (changed (is_on ref) (joins to x r.legs) r)) (added to p ref l t).table s') (sym (added_party id p)) (done heard)
 
 -- split
@@ -201,20 +188,20 @@ marks_same b b' is = grind arith
 -- isolate and reattach
 remarked_at : (r : Roster) (t : Table) (s s' : Standings) (ref p : ℕ) (b' : Bool) (own other : Notice) (d : Conference) (o : Option Party) → control_of t ref ≡ Some d → party_with t d.id p ≡ o → (o ≡ None → ⊥)
     → ((z : Standing) → (after own z).heard ≡ z.heard) → ((z : Standing) → is_isolated (after own z).latest ≡ b') → ((z : Standing) → after other z ≡ z) → Kept r t s
-    → Heard (with_found t o (λ q. remarked (mark_of b') own other d.id q t)) s s'
+    → Heard (with_found t o (λ q. remarked (mark_of b') own other d.id q t)).told s s'
     → Kept (counted 0 (with_found t o (λ q. remarked (mark_of b') own other d.id q t)).gone (changed (of_linked (r.links ref) p) (λ k e. isolated_as b' e) r)) (with_found t o (λ q. remarked (mark_of b') own other d.id q t)).table s'
 remarked_at r t s s' ref p b' own other d None control is there sum latest unmoved kept = absurd (there refl)
 remarked_at r t s s' ref p b' own other d (Some q) control is there sum latest unmoved kept =
     let known = found_party r t s d.id p q kept is in
     let linked_is = control_linked r t s ref d kept control in
-    subst (λ o. Heard (remarked (mark_of b') own other d.id q t) s s' → Kept (counted 0 (remarked (mark_of b') own other d.id q t).gone (changed (of_linked o p) (λ k e. isolated_as b' e) r)) (remarked (mark_of b') own other d.id q t).table s') (sym linked_is)
-    (subst (λ x. Heard (remarked (mark_of b') own other d.id q t) s s' → Kept (counted 0 (remarked (mark_of b') own other d.id q t).gone (changed (is_party d.id x) (λ k e. isolated_as b' e) r)) (remarked (mark_of b') own other d.id q t).table s') known.0
+    subst (λ o. Heard (remarked (mark_of b') own other d.id q t).told s s' → Kept (counted 0 (remarked (mark_of b') own other d.id q t).gone (changed (of_linked o p) (λ k e. isolated_as b' e) r)) (remarked (mark_of b') own other d.id q t).table s') (sym linked_is)
+    (subst (λ x. Heard (remarked (mark_of b') own other d.id q t).told s s' → Kept (counted 0 (remarked (mark_of b') own other d.id q t).gone (changed (is_party d.id x) (λ k e. isolated_as b' e) r)) (remarked (mark_of b') own other d.id q t).table s') known.0
     (go (same_mark q.mark (mark_of b')) refl known.1 known.2))
   where
     to : Bool → Effect
     to c = cond c (nothing t) (record { table = with_marked d.id q.id (mark_of b') t; told = (q.leg, own) ∷ each other (others t d.id q.id); gone = 0 })
 
-    go : (c : Bool) → same_mark q.mark (mark_of b') ≡ c → (k : Known r.legs q) → r.legs q.leg ≡ party d.id q.id k.joined k.isolated → Heard (to c) s s' → Kept (counted 0 (to c).gone (changed (is_party d.id q.id) (λ k e. isolated_as b' e) r)) (to c).table s'
+    go : (c : Bool) → same_mark q.mark (mark_of b') ≡ c → (k : Known r.legs q) → r.legs q.leg ≡ party d.id q.id k.joined k.isolated → Heard (to c).told s s' → Kept (counted 0 (to c).gone (changed (is_party d.id q.id) (λ k e. isolated_as b' e) r)) (to c).table s'
     go true same k was heard =
         let one : k.isolated ≡ b' = marks_same k.isolated b' (subst (λ m. same_mark m (mark_of b') ≡ true) k.mark same) in
         kept_marked_so q.leg d.id q.id k.joined b' (was ∙ ap (λ b. party d.id q.id k.joined b) one) (kept_same s' heard kept)
@@ -251,7 +238,7 @@ own_given t ref progress none = own_there (call_at t ref).state (not-false (in_p
 
 -- every request granted goes on fitting
 granted_fits : (r : Roster) (t : Table) (s s' : Standings) (level : Level) (carrier : Carrier) (id : ℤ) (q : Request) → reference_of carrier < 128 → in_use carrier t ≡ false → operation_verdict level t carrier q ≡ granted → Kept r t s
-    → SettledSo carrier (record { id = id; request = q }) r t s s' (head carrier q t granted ++ encoded (result_of carrier q id t)) (effect_of level carrier q t)
+    → SettledSo carrier (record { id = id; request = q }) r t s s' (head carrier q t granted ++ encoded (result id (ids_given carrier q t))) (effect_of level carrier q t)
 granted_fits r t s s' level (Setup ref speech) id (request.Begin size) lt free ok kept =
     let n = asked_size level size in
     let a = not_failed (not level.subscribed) 0 _ ok in
@@ -307,22 +294,6 @@ granted_fits r t s s' level (Setup ref speech) id (request.Drop p) lt free ok ke
 granted_fits r t s s' level (Setup ref speech) id (request.Isolate p) lt free ok kept = cc
 granted_fits r t s s' level (Setup ref speech) id (request.Reattach p) lt free ok kept = cc
 
--- what is granted passed the checks of its carrier and of its operation
-passed : (level : Level) (t : Table) (room needed : ℕ) (carrier : Carrier) (q : Request) → verdict level t room needed carrier q ≡ granted → (in_use carrier t ≡ false) × (operation_verdict level t carrier q ≡ granted)
-passed level t room needed carrier q is =
-    let checks = both_granted (first_wrong ((not (carries carrier q), rejected 1) ∷ (in_use carrier t, rejected 3) ∷ [])) _ is in
-    let carried = not_rejected (not (carries carrier q)) 1 _ checks.0 in
-    let unused = not_rejected (in_use carrier t) 3 granted carried.1 in
-    let judged = both_granted (operation_verdict level t carrier q) _ checks.1 in
-    (unused.0, judged.0)
-
--- and there is room for all that it tells
-pub roomy : (level : Level) (t : Table) (room needed : ℕ) (carrier : Carrier) (q : Request) → verdict level t room needed carrier q ≡ granted → ltb room needed ≡ false
-roomy level t room needed carrier q is =
-    let checks = both_granted (first_wrong ((not (carries carrier q), rejected 1) ∷ (in_use carrier t, rejected 3) ∷ [])) _ is in
-    let judged = both_granted (operation_verdict level t carrier q) (first_wrong ((ltb room needed, rejected 3) ∷ [])) checks.1 in
-    (not_rejected (ltb room needed) 3 granted judged.1).0
-
 -- what is refused does nothing and writes nothing
 unaccepted : (r : Roster) (t : Table) (s s' : Standings) (carrier : Carrier) (asked : RequestInvoke) (body : List ℕ) → accepts body ≡ false → Kept r t s → SettledSo carrier asked r t s s' body (nothing t)
 unaccepted r t s s' carrier asked body is kept = λ heard. rw is (counted_none (kept_same s' heard kept))
@@ -338,4 +309,7 @@ settled_kept r t s s' level room carrier asked lt kept = go (verdict level t roo
     go : (v : Verdict) → verdict level t room (length e.told) carrier asked.request ≡ v → SettledSo carrier asked r t s s' (settled_as carrier asked t e v).body (settled_as carrier asked t e v).effect
     go (failed n) is = unaccepted r t s s' carrier asked (head carrier asked.request t (failed n) ++ encoded (reply carrier asked t (failed n))) (not_accepted carrier asked t n) kept
     go (rejected n) is = unaccepted r t s s' carrier asked (head carrier asked.request t (rejected n) ++ encoded (reply carrier asked t (rejected n))) (not_accepted_either carrier asked t n) kept
-    go granted is = let judged = passed level t room (length e.told) carrier asked.request is in granted_fits r t s s' level carrier asked.id asked.request lt judged.0 judged.1 kept
+    go granted is =
+        let free = carrier_free level t room (length e.told) carrier asked.request is in
+        let judged = operation_granted level t room (length e.told) carrier asked.request is in
+        granted_fits r t s s' level carrier asked.id asked.request lt free judged kept

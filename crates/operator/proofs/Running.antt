@@ -1,9 +1,9 @@
 -- The company law holds along every history.
-use Rattle.std.proofs.Common.{◌≡◌, ℕ, ◌≤◌, Bool, true, false, cond, List, [], ◌∷◌, ◌++◌, length, take, subst, get_or, replicate, refl, sym, inl, inr, arith}
+use Rattle.std.proofs.Common.{◌≡◌, ℕ, ◌≤◌, Bool, true, false, cond, List, [], ◌∷◌, ◌++◌, ap, subst, get_or, replicate, refl, sym, inl, inr, arith}
 use Rattle.std.proofs.lemmas.Bool.{cases_lt, true≢false}
 use Rattle.std.proofs.lemmas.List.{get_or-replicate, get_or_past}
 use Rattle.std.proofs.lemmas.List.Sums.{fold_push}
-use Rattle.std.proofs.lemmas.List.{take-append-le, take_all, length_push}
+use Rattle.std.proofs.lemmas.List.{map-append}
 use Rattle.facility.specs.declared.request.RequestInvoke.{RequestInvoke}
 use Rattle.line.specs.Meaning.{Standings}
 use Rattle.tables.specs.declared.level.Level.{Level}
@@ -14,13 +14,14 @@ use Rattle.controller.specs.Granting.{nothing}
 use Rattle.controller.specs.Judging.{reference_of}
 use Rattle.controller.specs.Replies.{settled, turned_away}
 use Rattle.controller.specs.Steps.{is_reference}
-use Rattle.operator.specs.declared.step.Step.{Step}
-use Rattle.operator.specs.declared.step.Step.TheVariants as step
+use Rattle.controller.specs.Telling.{Heard}
+use Rattle.operator.specs.declared.steps.Step.{Step}
+use Rattle.operator.specs.declared.steps.Step.TheVariants as step
 use Rattle.operator.specs.Company.{Company}
 use Rattle.operator.specs.Roster.{down, is_up, Roster, empty, written}
-use Rattle.operator.specs.Run.{Run, start, next, Turned, roster_after, Reached, GoesOn}
+use Rattle.operator.specs.Run.{Run, start, next, Turned, roster_after, Throughout, GoesOn, Ran, Taken}
 use Rattle.tables.specs.declared.refusal.Refusal.TheVariants.{OutOfRange}
-use Rattle.operator.specs.Turns.{RoomAfter, replied, Turn, Heard, turn, new_table, reply_turn, refusal}
+use Rattle.operator.specs.Turns.{Answer, RoomAfter, replied, Turn, turn, new_table, reply_turn, refusal}
 use Rattle.operator.proofs.Counts.{count_none}
 use Rattle.operator.proofs.Holding.{Kept}
 use Rattle.operator.proofs.Keeping.{kept_same, counted_none}
@@ -58,18 +59,18 @@ kept_new s = record {
 
 -- whatever is done, the company is kept
 settled_turn : (r : Roster) (t : Table) (s s' : Standings) (level : Level) (room : ℕ) (carrier : Carrier) (asked : RequestInvoke) (b : Bool) → is_reference (reference_of carrier) ≡ b → Kept r t s
-    → (let x = cond b (reply_turn (settled level room carrier asked t)) (refusal OutOfRange t) in Heard x.effect s s' → Kept (written (step.Settled carrier asked) x.answer r) x.effect.table s')
+    → (let x = cond b (reply_turn (settled level room carrier asked t)) (refusal OutOfRange t) in Heard x.effect.told s s' → Kept (written (step.Settled carrier asked) x.answer r) x.effect.table s')
 settled_turn r t s s' level room carrier asked true is kept = settled_kept r t s s' level room carrier asked (reference_below (reference_of carrier) is) kept
 settled_turn r t s s' level room carrier asked false is kept = λ heard. counted_none (kept_same s' heard kept)
 
 -- a request turned away
 away_turn : (r : Roster) (t : Table) (s s' : Standings) (carrier : Carrier) (asked : RequestInvoke) (b : Bool) → Kept r t s
-    → (let x : Turn = cond b (record { answer = replied (turned_away asked) 0; effect = nothing t }) (refusal OutOfRange t) in Heard x.effect s s' → Kept (written (step.TurnedAway carrier asked) x.answer r) x.effect.table s')
+    → (let x : Turn = cond b (record { answer = replied (turned_away asked) 0; effect = nothing t }) (refusal OutOfRange t) in Heard x.effect.told s s' → Kept (written (step.TurnedAway carrier asked) x.answer r) x.effect.table s')
 away_turn r t s s' carrier asked true kept = λ heard. counted_none (kept_same s' heard kept)
 away_turn r t s s' carrier asked false kept = λ heard. counted_none (kept_same s' heard kept)
 
 -- any step at all
-pub turn_kept : (r : Roster) (t : Table) (s s' : Standings) (level : Level) (room : ℕ) (st : Step) → Kept r t s → Heard (turn level room st t).effect s s' → Kept (written st (turn level room st t).answer r) (turn level room st t).effect.table s'
+pub turn_kept : (r : Roster) (t : Table) (s s' : Standings) (level : Level) (room : ℕ) (st : Step) → Kept r t s → Heard (turn level room st t).effect.told s s' → Kept (written st (turn level room st t).answer r) (turn level room st t).effect.table s'
 turn_kept r t s s' level room (step.Reported rep) kept = report_kept r t s s' room rep kept
 turn_kept r t s s' level room (step.Settled carrier asked) kept = settled_turn r t s s' level room carrier asked (is_reference (reference_of carrier)) refl kept
 turn_kept r t s s' level room (step.TurnedAway carrier asked) kept = away_turn r t s s' carrier asked (is_reference (reference_of carrier)) kept
@@ -90,24 +91,39 @@ run_kept {level} (next h t s s' room room' st run heard after) =
 pub company_holds : {level : Level} {h : List Turned} {t : Table} {s : Standings} {room : ℕ} → Run level h t s room → Company (roster_after h) t s
 company_holds run = company _ _ _ (run_kept run)
 
--- what a whole history led to
-reached : {level : Level} {h : List Turned} {t : Table} {s : Standings} {room : ℕ} → Run level h t s room → (i : ℕ) → length h ≤ i → Reached level (take i h)
-reached {level} {h} {t} {s} {room} run i all = subst (Reached level) (sym (take_all i h all)) (record { table = t; standings = s; room = room; run = run; law = company_holds run })
-
--- the law holds after each turn of a history
-pub at_each_turn : {level : Level} {h : List Turned} {t : Table} {s : Standings} {room : ℕ} → Run level h t s room → (i : ℕ) → Reached level (take i h)
-at_each_turn (start s room roomy) i = reached (start s room roomy) i (omega arith)
-at_each_turn {level} (next h t s s' room room' st run heard after) i =
-    let turned : Turned = (st, (turn level room st t).answer) in
-    elim (cases_lt (length h) i) [
-      | inl past ↦ let long = length_push h turned in reached (next h t s s' room room' st run heard after) i (omega arith)
-      | inr within ↦ subst (Reached level) (sym (take-append-le i h (turned ∷ []) within)) (at_each_turn run i)
-    ]
+-- so it held at its start and after each of its turns
+pub throughout : {level : Level} {h : List Turned} {t : Table} {s : Standings} {room : ℕ} (run : Run level h t s room) → Throughout run
+throughout (start s room roomy) = company _ _ _ (kept_new s)
+throughout {level} (next h t s s' room room' st run heard after) = (throughout run, company_holds (next h t s s' room room' st run heard after))
 
 -- a step carries on whatever history led to where it began
-pub goes_on : {level : Level} {st : Step} {t : Table} {s s' : Standings} {room room' : ℕ} → Heard (turn level room st t).effect s s' → RoomAfter st (turn level room st t).effect room room'
+pub goes_on : {level : Level} {st : Step} {t : Table} {s s' : Standings} {room room' : ℕ} → Heard (turn level room st t).effect.told s s' → RoomAfter st (turn level room st t).effect room room'
     → GoesOn level st (turn level room st t).answer t (turn level room st t).effect.table s s' room room'
 goes_on {level} {st} {t} {s} {s'} {room} {room'} heard after = record {
   run = λ h run. next h t s s' room room' st run heard after;
   law = λ h run. company_holds (next h t s s' room room' st run heard after);
 }
+
+-- a history starts with new tables and room for 64
+pub starts : {level : Level} {t : Table} {s : Standings} {room : ℕ} → t ≡ new_table → 64 ≤ room → Run level [] t s room
+starts {level} {t} {s} {room} new roomy = rw new (start s room roomy)
+
+-- and the company law holds there
+pub company_new : {t : Table} {s : Standings} → t ≡ new_table → Company empty t s
+company_new {t} {s} new = rw new (company _ _ _ (kept_new s))
+
+-- a step that is taken carries on whatever history led to where it began
+pub taken_goes_on : {level : Level} {st : Step} {answer : Answer} {t t' : Table} {s s' : Standings} {room room' : ℕ} → Taken level st answer t t' s s' room room' → GoesOn level st answer t t' s s' room room'
+taken_goes_on {level} {st} {answer} {t} {t'} {s} {s'} {room} {room'} taken = rw (taken.answered, taken.table) (goes_on taken.heard taken.roomy)
+
+-- nothing taken, on a new controller and a collected line
+pub ran_none : {level : Level} {t : Table} {s : Standings} {room : ℕ} → Run level [] t s room → Ran level [] t s room
+ran_none run = record { history = []; taken = refl; run = run; law = throughout run }
+
+-- and one step more
+pub ran_more : {level level' : Level} {steps : List Step} {st : Step} {answer : Answer} {t t' : Table} {s s' : Standings} {room room' : ℕ} → level' ≡ level
+    → Ran level steps t s room → GoesOn level' st answer t t' s s' room room' → Ran level (steps ++ (st ∷ [])) t' s' room'
+ran_more {level} {level'} {steps} {st} {answer} {t} {t'} {s} {s'} {room} {room'} same ran on =
+    let on' : GoesOn level st answer t t' s s' room room' = rw (← same) on in
+    let run = on'.run ran.history ran.run in
+    record { history = ran.history ++ ((st, answer) ∷ []); taken = simp map-append (ap (λ xs. xs ++ (st ∷ [])) ran.taken); run = run; law = throughout run }

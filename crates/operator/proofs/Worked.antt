@@ -7,8 +7,8 @@ use Rattle.tables.specs.declared.level.Level.{Level}
 use Rattle.tables.specs.Table.{Table}
 use Rattle.controller.specs.declared.carrier.Carrier.TheVariants.{Facility, Setup}
 use Rattle.controller.specs.declared.report.Report.TheVariants as report
-use Rattle.operator.specs.declared.step.Step.{Step}
-use Rattle.operator.specs.declared.step.Step.TheVariants as step
+use Rattle.operator.specs.declared.steps.Step.{Step}
+use Rattle.operator.specs.declared.steps.Step.TheVariants as step
 use Rattle.operator.specs.Roster.{down, on, party, Roster, empty, written, count}
 use Rattle.operator.specs.Turns.{turn, new_table}
 

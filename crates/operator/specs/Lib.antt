@@ -2,3 +2,4 @@ pub mod Turns
 pub mod Roster
 pub mod Company
 pub mod Run
+pub mod Answers

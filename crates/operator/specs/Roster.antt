@@ -7,8 +7,8 @@ use Rattle.controller.specs.declared.carrier.Carrier.{Carrier}
 use Rattle.controller.specs.declared.carrier.Carrier.TheVariants.{Facility, Setup}
 use Rattle.controller.specs.declared.report.Report.{Report}
 use Rattle.controller.specs.declared.report.Report.TheVariants as report
-use Rattle.operator.specs.declared.step.Step.{Step}
-use Rattle.operator.specs.declared.step.Step.TheVariants as step
+use Rattle.operator.specs.declared.steps.Step.{Step}
+use Rattle.operator.specs.declared.steps.Step.TheVariants as step
 use Rattle.operator.specs.Turns.{Answer, refused, done, replied}
 
 -- where a leg is: down; on a reference; or in a conference as a PartyId, with the number of others in it just after it joined, and

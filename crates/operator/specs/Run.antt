@@ -1,12 +1,13 @@
 -- Histories: steps on a new controller and a collected line, in any order, each with its answer. Assumes nothing.
-use Rattle.std.specs.Prelude.{ℕ, ◌≤◌, List, [], ◌∷◌, ◌++◌, fold}
+use Rattle.std.specs.Prelude.{◌≡◌, ℕ, ◌≤◌, List, [], ◌∷◌, ◌++◌, fold, map}
 use Rattle.line.specs.Meaning.{Standings}
 use Rattle.tables.specs.declared.level.Level.{Level}
 use Rattle.tables.specs.Table.{Table}
-use Rattle.operator.specs.declared.step.Step.{Step}
+use Rattle.controller.specs.Telling.{Heard}
+use Rattle.operator.specs.declared.steps.Step.{Step}
 use Rattle.operator.specs.Company.{Company}
 use Rattle.operator.specs.Roster.{Roster, empty, written}
-use Rattle.operator.specs.Turns.{Answer, turn, Heard, RoomAfter, new_table}
+use Rattle.operator.specs.Turns.{Answer, turn, RoomAfter, new_table}
 
 -- a step, and what it was answered
 abbrev pub Turned : Type 0
@@ -22,18 +23,31 @@ pub data Run (level : Level) : List Turned → Table → Standings → ℕ → T
   start : (s : Standings) (room : ℕ) → 64 ≤ room → Run level [] new_table s room
   next : (h : List Turned) (t : Table) (s s' : Standings) (room room' : ℕ) (step : Step)
       → Run level h t s room
-      → Heard (turn level room step t).effect s s' → RoomAfter step (turn level room step t).effect room room'
+      → Heard (turn level room step t).effect.told s s' → RoomAfter step (turn level room step t).effect room room'
       → Run level (h ++ ((step, (turn level room step t).answer) ∷ [])) (turn level room step t).effect.table s' room'
 
--- what a history led to, and that the company law holds there
-pub record Reached (level : Level) (h : List Turned) : Type 0 where
-  pub table : Table
-  pub standings : Standings
-  pub room : ℕ
-  pub run : Run level h table standings room
-  pub law : Company (roster_after h) table standings
+-- the company law at the start of a history and after each of its steps, of the tables and the line as they were then
+abbrev pub Throughout : {level : Level} {h : List Turned} {t : Table} {s : Standings} {room : ℕ} → Run level h t s room → Type 0
+Throughout (start s room roomy) = Company empty new_table s
+Throughout {level} (next h t s s' room room' step run heard roomy) =
+    Throughout run × Company (roster_after (h ++ ((step, (turn level room step t).answer) ∷ []))) (turn level room step t).effect.table s'
 
 -- a step and its answer carry on whatever history led to the tables and the line, and the company law holds then
 pub record GoesOn (level : Level) (step : Step) (answer : Answer) (t t' : Table) (s s' : Standings) (room room' : ℕ) : Type 0 where
   pub run : (h : List Turned) → Run level h t s room → Run level (h ++ ((step, answer) ∷ [])) t' s' room'
   pub law : (h : List Turned) → Run level h t s room → Company (roster_after (h ++ ((step, answer) ∷ []))) t' s'
+
+-- a step is taken: it is answered as its turn is, and what that does is done
+pub record Taken (level : Level) (step : Step) (answer : Answer) (t t' : Table) (s s' : Standings) (room room' : ℕ) : Type 0 where
+  pub answered : answer ≡ (turn level room step t).answer
+  pub table : t' ≡ (turn level room step t).effect.table
+  pub heard : Heard (turn level room step t).effect.told s s'
+  pub roomy : RoomAfter step (turn level room step t).effect room room'
+
+-- a list of steps taken on a new controller and a collected line: each got an answer, and the company law held at the start and
+-- after each of them
+pub record Ran (level : Level) (steps : List Step) (t : Table) (s : Standings) (room : ℕ) : Type 0 where
+  pub history : List Turned
+  pub taken : map (λ turned. turned.0) history ≡ steps
+  pub run : Run level history t s room
+  pub law : Throughout run

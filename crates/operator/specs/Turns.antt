@@ -1,20 +1,17 @@
 -- What each step answers and does. Assumes nothing.
-use Rattle.std.specs.Prelude.{◌≡◌, ℕ, ◌+◌, ◌≤◌, cond, List, [], replicate, length, None, Ok, Err, Option, Result, All}
-use Rattle.line.specs.Acts.{heard, notices_to}
-use Rattle.line.specs.Meaning.{Leg, Standings}
+use Rattle.std.specs.Prelude.{ℕ, ◌+◌, ◌≤◌, cond, List, length, None, Ok, Err, Option, Result}
 use Rattle.tables.specs.declared.level.Level.{Level}
 use Rattle.tables.specs.declared.refusal.Refusal.{Refusal}
 use Rattle.tables.specs.declared.refusal.Refusal.TheVariants.{OutOfRange}
-use Rattle.tables.specs.Calls.{absent}
-use Rattle.tables.specs.Table.{Table}
+use Rattle.tables.specs.Table.{Table, empty}
 use Rattle.controller.specs.Granting.{nothing}
 use Rattle.controller.specs.Judging.{reference_of}
 use Rattle.controller.specs.Replies.{Settled, settled, turned_away}
 use Rattle.controller.specs.Reports.{Accepted, reported}
 use Rattle.controller.specs.declared.disc.Disc.{Disc}
 use Rattle.controller.specs.Steps.{Effect, is_reference}
-use Rattle.operator.specs.declared.step.Step.{Step}
-use Rattle.operator.specs.declared.step.Step.TheVariants as step
+use Rattle.operator.specs.declared.steps.Step.{Step}
+use Rattle.operator.specs.declared.steps.Step.TheVariants as step
 
 -- an answer: a refusal; a step done, how many legs are gone, and the PartyDISC that is sent, if any; the message body that answers
 -- a request, and how many legs are gone
@@ -50,20 +47,11 @@ turn level room (step.TurnedAway carrier asked) t =
     cond (is_reference (reference_of carrier)) (record { answer = replied (turned_away asked) 0; effect = nothing t }) (refusal OutOfRange t)
 turn level room step.Collected t = record { answer = done 0 None; effect = nothing t }
 
--- each leg has heard, in order, what it was told
-abbrev pub Heard : Effect → Standings → Standings → Type 0
-Heard e s s' = (k : ℕ) → s' k ≡ heard (notices_to k e.told) (s k)
-
 -- the room after a step: each notice takes one at most, and a collection leaves room for 64
 abbrev pub RoomAfter : Step → Effect → ℕ → ℕ → Type 0
 RoomAfter step.Collected e room room' = 64 ≤ room'
 RoomAfter _ e room room' = (room' ≤ room) × (room ≤ room' + length e.told)
 
--- all that a step tells can be told: there is room for it, and each leg told is one that there is
-pub record Tellable (e : Effect) (room : ℕ) : Type 0 where
-  pub roomy : length e.told ≤ room
-  pub legs : All (λ telling. Leg telling.0) e.told
-
 -- the tables of a new controller: calls absent, legs down, no conference
 abbrev pub new_table : Table
-new_table = record { calls = replicate 128 absent; conferences = []; parties = []; conference_ids = 127; disc_ids = 127 }
+new_table = empty

@@ -3,6 +3,10 @@
 // The rules are in `specs/`: what a step does, the roster that is written from the answers, and the law.
 #![tactic(auto)]
 
-mod step;
+mod answer;
+mod operating;
+mod steps;
 
-pub use step::Step;
+pub use answer::Answer;
+pub use operating::{run, start, step};
+pub use steps::Step;

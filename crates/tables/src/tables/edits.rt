@@ -15,9 +15,10 @@ impl Tables {
         ensures done { self.new ≡ with_call reference call self.old }
         ensures answer { IsTrue result ↔ (reference < 128) }
     {
-        let there = (reference as usize) < self.calls.len();
+        let place = usize::from(reference);
+        let there = place < self.calls.len();
         if there {
-            self.calls[reference as usize] = call;
+            self.calls[place] = call;
         }
         there
     }

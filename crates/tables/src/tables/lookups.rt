@@ -22,7 +22,7 @@ impl Tables {
         ensures { result ≡ call_at self.now reference }
     {
         self.calls
-            .get(reference as usize)
+            .get(usize::from(reference))
             .copied()
             .unwrap_or(Call::absent())
     }
@@ -115,7 +115,7 @@ impl Tables {
         ensures { result ≡ call_to self.now leg }
     {
         let place = place_leading_to(&self.calls, leg)?;
-        Some(place as u8)
+        u8::try_from(place).ok()
     }
 
     // The party of a leg.

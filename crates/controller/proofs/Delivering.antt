@@ -1,0 +1,61 @@
+-- What is told on a line, one notice after another, is delivered.
+use Rattle.std.proofs.Common.{arith, length, ◌+◌, ◌≡◌, ℕ, Bool, true, false, cond, eqb, List, [], ◌∷◌, ◌++◌, map, Ok, Err, Result, IsOk, refl, sym, ◌∙◌, add_comm, add-one, zero-add}
+use Rattle.std.specs.List.{filter}
+use Rattle.std.proofs.Math.Seq.{drop-append_seam}
+use Rattle.std.proofs.lemmas.List.{length-append, length-map}
+use Rattle.std.proofs.lemmas.Simd.{map-map}
+use Rattle.std.proofs.lemmas.List.Elements.{All-drop, All-head, All-map}
+use Rattle.std.proofs.lemmas.List.Sums.{sum_by-cons}
+use Rattle.line.specs.declared.meaning.Refusal.{Refusal}
+use Rattle.line.specs.declared.meaning.Refusal.TheVariants.{NoSuchLeg, NoRoom}
+use Rattle.line.specs.declared.notice.Notice.{Notice}
+use Rattle.line.specs.declared.standing.Standing.{Standing}
+use Rattle.line.specs.Acts.{Telling, heard, notices_to}
+use Rattle.line.specs.Meaning.{Leg, Standings, Tells}
+use Rattle.line.specs.Notices.{after}
+use Rattle.line.specs.Telling.{EachDone, TellsEach, times, repeated}
+use Rattle.tables.specs.declared.conference.Party.{Party}
+use Rattle.tables.specs.Table.{legs_of}
+use Rattle.controller.specs.Steps.{each}
+use Rattle.controller.specs.Telling.{Delivered, Tellable}
+
+-- a notice for each of some parties comes to as many times as a leg is among them
+heard_each : (k : ℕ) (n : Notice) (ps : List Party) (z : Standing) → heard (notices_to k (each n ps)) z ≡ repeated (times k (legs_of ps)) n z
+heard_each k n [] z = refl
+heard_each k n (p ∷ ps) z =
+    rw (sum_by-cons (λ x. cond (eqb k x) 1 0) p.leg (legs_of ps)) (go (eqb k p.leg) (heard_each k n ps))
+  where
+    go : (b : Bool) → ((z : Standing) → heard (notices_to k (each n ps)) z ≡ repeated (times k (legs_of ps)) n z)
+        → heard (map (λ t. t.1) (cond b ((p.leg, n) ∷ filter (λ t. eqb k t.0) (each n ps)) (filter (λ t. eqb k t.0) (each n ps)))) z ≡ repeated (cond b 1 0 + times k (legs_of ps)) n z
+    go true rest = rw (add_comm 1 (times k (legs_of ps)), add-one) (rest (after n z))
+    go false rest = rw zero-add (rest z)
+
+-- what is told to each of some parties is delivered
+pub delivered_all : {n : Notice} (ps : List Party) {s s' : Standings} {room room' : ℕ} → EachDone (legs_of ps) n s s' room room' → Delivered (each n ps) s s' room room'
+delivered_all {n} ps {s} done = record {
+  heard = λ k. done.heard k ∙ sym (heard_each k n ps (s k));
+  falls = done.falls;
+  by_told = rw length-map (rw length-map at done.by_length);
+}
+
+-- once the first of it is told, the rest can be told
+pub tellable_behind : (xs ys : List Telling) {s s' : Standings} {room room' : ℕ} → Tellable (xs ++ ys) room → Delivered xs s s' room room' → Tellable ys room'
+tellable_behind xs ys can done = record {
+  roomy = let few = rw length-append at can.roomy in let fall = done.by_told in omega arith;
+  legs = rw drop-append_seam at (All-drop (λ t. Leg t.0) (length xs) (xs ++ ys) can.legs);
+}
+
+-- a notice that can be told is not refused
+pub told_one_ok : (l : ℕ) (n : Notice) (s s' : Standings) (room room' : ℕ) (r : Result Unit Refusal) → Tells l n s s' room room' r → Tellable ((l, n) ∷ []) room → IsOk r
+told_one_ok l n s s' room room' (Ok _) told can = refl
+told_one_ok l n s s' room room' (Err NoSuchLeg) told can = absurd (told.0 (All-head (λ t. Leg t.0) (l, n) [] can.legs))
+told_one_ok l n s s' room room' (Err NoRoom) told can = let some = can.roomy in let none = told.1 in absurd (omega arith)
+
+-- nor are those for some parties
+pub told_all_ok : (n : Notice) (ps : List Party) (s s' : Standings) (room room' : ℕ) (r : Result Unit Refusal) → TellsEach (legs_of ps) n s s' room room' r → Tellable (each n ps) room → IsOk r
+told_all_ok n ps s s' room room' (Ok _) told can = refl
+told_all_ok n ps s s' room room' (Err NoSuchLeg) told can = absurd (told.0 (rw map-map at (All-map Leg (λ t. t.0) (each n ps) can.legs)))
+told_all_ok n ps s s' room room' (Err NoRoom) told can =
+    let some = rw length-map at can.roomy in
+    let few = rw length-map at told.1 in
+    absurd (omega arith)

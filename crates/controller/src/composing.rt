@@ -1,0 +1,29 @@
+// Messages to the served user: what they begin with, and the component in their Facility element.
+ghost use Rattle.std.specs.Prelude.{◌≡◌, ◌++◌, ◌≤◌, length};
+ghost use Rattle.components.specs.Component.{said};
+ghost use Rattle.components.specs.Message.{message_octets};
+ghost use Rattle.components.specs.Writing.{encoded, Sound};
+
+use components::{Component, Message};
+
+// What stands in front of the Facility element: the type octet, and behind it, where a call is cleared, the cause 31, normal,
+// unspecified, of the public network that serves the local user.
+pub(crate) const FACILITY: &[u8] = &[0x62];
+
+pub(crate) const CONNECT: &[u8] = &[0x07];
+
+pub(crate) const DISCONNECT: &[u8] = &[0x45, 0x08, 0x02, 0x82, 0x9f];
+
+pub(crate) const RELEASE_COMPLETE: &[u8] = &[0x5a, 0x08, 0x02, 0x82, 0x9f];
+
+// The message of a head and a component, which read back and fit it.
+pub(crate) fn compose(head: &[u8], component: &Component<'_>) -> Message
+    requires sound { Sound (said component.now) }
+    requires few { length (head.now ++ encoded (said component.now)) ≤ 23 }
+    ensures { message_octets result ≡ head.now ++ encoded (said component.now) }
+{
+    let Ok(message) = Message::new(head, component) else {
+        unreachable!()
+    };
+    message
+}

@@ -1,0 +1,84 @@
+// Writing the element of a request.
+ghost use Rattle.std.specs.Prelude.{◌≡◌, ◌↔◌, IsTrue, pos};
+ghost use Rattle.std.specs.Option.{option_map};
+ghost use Rattle.components.specs.Component.{said};
+ghost use Rattle.facility.specs.Requests.{request_argument, request_code, request_said, InRange};
+ghost use Rattle.facility.specs.Writing.{Wrote};
+
+use crate::request::{Request, RequestInvoke};
+use components::{Component, Parameter, Refusal};
+
+impl Request {
+    // The code of the operation.
+    fn code(self) -> i16
+        ensures { result ≡ pos (request_code self) }
+    {
+        match self {
+            Request::Begin { .. } => 40,
+            Request::Add { .. } => 41,
+            Request::Split { .. } => 42,
+            Request::Drop { .. } => 43,
+            Request::Isolate { .. } => 44,
+            Request::Reattach { .. } => 45,
+        }
+    }
+
+    // Whether each number is from 0 to 127.
+    fn is_in_range(self) -> bool
+        ensures { IsTrue result ↔ InRange self }
+    {
+        match self {
+            Request::Begin { size } => size.is_none_or(|size| size <= 127),
+            Request::Add { conference } => conference <= 127,
+            Request::Split { conference, party } => conference <= 127 && party <= 127,
+            Request::Drop { party } | Request::Isolate { party } | Request::Reattach { party } => {
+                party <= 127
+            }
+        }
+    }
+}
+
+impl RequestInvoke {
+    // The invoke, with these octets as its argument.
+    fn with_argument(self, argument: Option<&[u8]>) -> Component<'_>
+        requires { option_map (λ octets. octets.now) argument ≡ request_argument self.request }
+        ensures { said result ≡ request_said self }
+    {
+        Component::Invoke {
+            id: self.id,
+            operation: self.request.code(),
+            argument: argument.map(|octets| Parameter { octets, place: 0 }),
+        }
+    }
+
+    // Writes the invoke, with these octets as its argument.
+    fn write_with(self, argument: Option<&[u8]>, memory: &mut [u8]) -> Result<usize, Refusal>
+        requires argument { option_map (λ octets. octets.now) argument ≡ request_argument self.request }
+        requires in_range { InRange self.request }
+        ensures { Wrote self memory.old memory.new result }
+    {
+        self.with_argument(argument).write(memory)
+    }
+
+    // Writes the element that makes the request into the front of the memory, and answers how many octets it has. A number
+    // above 127 is refused, and then memory that is too short; nothing is written then.
+    pub fn write(self, memory: &mut [u8]) -> Result<usize, Refusal>
+        ensures { Wrote self memory.old memory.new result }
+    {
+        if !self.request.is_in_range() {
+            return Err(Refusal::Unreadable);
+        }
+        match self.request {
+            Request::Begin { size: None } => self.write_with(None, memory),
+            Request::Begin { size: Some(n) }
+            | Request::Add { conference: n }
+            | Request::Drop { party: n }
+            | Request::Isolate { party: n }
+            | Request::Reattach { party: n } => self.write_with(Some(&[0x02, 0x01, n]), memory),
+            Request::Split { conference, party } => {
+                let ids = [0x30, 0x06, 0x02, 0x01, conference, 0x02, 0x01, party];
+                self.write_with(Some(&ids), memory)
+            }
+        }
+    }
+}

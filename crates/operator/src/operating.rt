@@ -1,0 +1,103 @@
+// The start of a run, and a step of it.
+ghost use Rattle.operator.specs.Answers.{in_octets};
+ghost use Rattle.operator.specs.Company.{Company};
+ghost use Rattle.operator.specs.Roster.{empty};
+ghost use Rattle.operator.specs.Run.{GoesOn, Ran, Run, Taken};
+ghost use Rattle.std.specs.Prelude.{◌≡◌, []};
+ghost use Rattle.line.specs.Meaning.{Same};
+
+use crate::answer::Answer;
+use crate::steps::Step;
+use controller::{Acceptance, Carrier, Controller, PendingReply, Reply, Report};
+use facility::RequestInvoke;
+use line::Line;
+use tables::{Level, Refusal};
+
+// Makes the controller at a level and collects the line: the start of a run, and the company law holds there.
+#[tactic(auto, using(crate::proofs::Running::starts))]
+pub fn start<L: Line>(level: Level, line: &mut L) -> Controller
+    ensures level { result.level ≡ level }
+    ensures kept { Same (L.standing line.old) (L.standing line.new) }
+    ensures run { Run level [] result.tables (L.standing line.new) (L.room line.new) }
+    ensures law { Company empty result.tables (L.standing line.new) }
+{
+    line.collect();
+    Controller::new(level)
+}
+
+// The exchange reports.
+fn reported<L: Line>(controller: &mut Controller, line: &mut L, report: Report) -> Answer
+    ensures taken { Taken controller.old.level (Step.Reported report) (in_octets result) controller.old.tables controller.new.tables (L.standing line.old) (L.standing line.new) (L.room line.old) (L.room line.new) }
+    ensures level { controller.new.level ≡ controller.old.level }
+{
+    match controller.report(line, report) {
+        Ok(Acceptance { gone, disc }) => Answer::Done { gone, disc },
+        Err(why) => Answer::Refused(why),
+    }
+}
+
+// A request is settled.
+fn settled<L: Line>(
+    controller: &mut Controller,
+    line: &mut L,
+    carrier: Carrier,
+    asked: RequestInvoke,
+) -> Answer
+    ensures taken { Taken controller.old.level (Step.Settled carrier asked) (in_octets result) controller.old.tables controller.new.tables (L.standing line.old) (L.standing line.new) (L.room line.old) (L.room line.new) }
+    ensures level { controller.new.level ≡ controller.old.level }
+{
+    match PendingReply::new(carrier, asked) {
+        Ok(pending) => {
+            let Reply { message, gone } = pending.settle(controller, line);
+            Answer::Replied { message, gone }
+        }
+        Err(why) => Answer::Refused(why),
+    }
+}
+
+// Takes one step.
+fn take<L: Line>(controller: &mut Controller, line: &mut L, step: Step) -> Answer
+    ensures taken { Taken controller.old.level step (in_octets result) controller.old.tables controller.new.tables (L.standing line.old) (L.standing line.new) (L.room line.old) (L.room line.new) }
+    ensures level { controller.new.level ≡ controller.old.level }
+{
+    match step {
+        Step::Reported(report) => reported(controller, line, report),
+        Step::Settled { carrier, asked } => settled(controller, line, carrier, asked),
+        Step::TurnedAway { carrier, asked } => match PendingReply::new(carrier, asked) {
+            Ok(pending) => Answer::Replied {
+                message: pending.turn_away(),
+                gone: 0,
+            },
+            Err(why) => Answer::Refused(why),
+        },
+        Step::Collected => {
+            line.collect();
+            Answer::Done {
+                gone: 0,
+                disc: None,
+            }
+        }
+    }
+}
+
+// Takes one step on the controller and the line. Whatever steps led here, with whatever answers, this one and its answer
+// carry them on, and the company law holds then.
+#[tactic(auto, using(crate::proofs::Running::taken_goes_on))]
+pub fn step<L: Line>(controller: &mut Controller, line: &mut L, step: Step) -> Answer
+    ensures taken { Taken controller.old.level step (in_octets result) controller.old.tables controller.new.tables (L.standing line.old) (L.standing line.new) (L.room line.old) (L.room line.new) }
+    ensures level { controller.new.level ≡ controller.old.level }
+    ensures law { GoesOn controller.old.level step (in_octets result) controller.old.tables controller.new.tables (L.standing line.old) (L.standing line.new) (L.room line.old) (L.room line.new) }
+{
+    take(controller, line, step)
+}
+
+// Takes all steps of a list on a new controller and a collected line. Each gets an answer, and the company law holds after each.
+pub fn run<L: Line>(level: Level, line: &mut L, steps: &[Step]) -> Controller
+    ensures { Ran level steps.now result.tables (L.standing line.new) (L.room line.new) }
+{
+    let mut controller = start(level, line);
+    for taken in steps {
+        let _ = step(&mut controller, line, *taken);
+    }
+    controller
+}
