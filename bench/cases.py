@@ -8,6 +8,7 @@ Each function below answers the lines of one group; docs/FACILITY.md has the rul
 """
 
 import functools
+import pathlib
 import sys
 
 from lines import element, integer, value
@@ -469,6 +470,13 @@ def ways():
             yield bytes([byte])
 
 
+# The trace to learn from
+
+
+def trace():
+    return pathlib.Path(__file__, "../../samples/trace.txt").resolve().read_bytes().splitlines()
+
+
 GROUPS = (
     counts,
     longest,
@@ -488,6 +496,7 @@ GROUPS = (
     ways,
     sweep_others,
     sweep_drop,
+    trace,
 )
 
 

@@ -4,6 +4,7 @@
 # Goal: at least 50 times as fast as the Python reader, and a time linear in the lines.
 set -eu
 cd "$(dirname "$0")/.."
+. bench/timing.sh
 count=${1:-200000}
 seed=${2:-1}
 tenth=$((count / 10))
@@ -18,28 +19,13 @@ fi
 python3 bench/lines.py "$count" "$seed" > "$dir/lines"
 head -n "$tenth" "$dir/lines" > "$dir/tenth"
 
-# microseconds COMMAND INPUT OUTPUT: the time of one run
-microseconds() {
-    begun=$(date +%s%N)
-    $1 < "$2" > "$3"
-    ended=$(date +%s%N)
-    echo $(((ended - begun) / 1000))
-}
-
-# best_of_5 COMMAND INPUT OUTPUT: the least time of five runs
-best_of_5() {
-    for run in 1 2 3 4 5; do
-        microseconds "$@"
-    done | sort -n | head -n 1
-}
-
 ./lowhitape decode < /dev/null                        # builds, if need be
 program=target/bin/decode                             # what the front has built, without the front's own time
 $program < "$dir/lines" > "$dir/decode.out"           # warms up
 
-start=$(best_of_5 "$program" /dev/null "$dir/none.out")
-whole=$(best_of_5 "$program" "$dir/lines" "$dir/decode.out")
-part=$(best_of_5 "$program" "$dir/tenth" "$dir/tenth.out")
+start=$(best_of 5 "$program" /dev/null "$dir/none.out")
+whole=$(best_of 5 "$program" "$dir/lines" "$dir/decode.out")
+part=$(best_of 5 "$program" "$dir/tenth" "$dir/tenth.out")
 python=$(microseconds "python3 bench/reader.py" "$dir/lines" "$dir/python.out")
 
 awk -v count="$count" -v tenth="$tenth" -v start="$start" -v whole="$whole" -v part="$part" -v python="$python" '
@@ -49,10 +35,9 @@ BEGIN {
     printf "decode, %8d lines         %10.3f s (best of 5)\n", count, whole / 1e6
     printf "python, %8d lines         %10.3f s\n", count, python / 1e6
     printf "python : decode                %10.1f   (goal: at least 50)\n", python / whole
-    printf "%8d : %8d lines      %10.2f   (linear: about 10", count, tenth, whole / part
-    if (part > start) printf "; %.2f without the start-up", (whole - start) / (part - start)
-    printf ")\n"
 }'
+printf '%8d : %8d lines      %10s   (linear: about 10; %s without the start-up)\n' "$count" "$tenth" \
+    "$(ratio "$whole" "$part")" "$(ratio $((whole - start)) $((part - start)))"
 
 if cmp -s "$dir/decode.out" "$dir/python.out"; then
     echo "outputs equal: $(wc -l < "$dir/python.out") lines"

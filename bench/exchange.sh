@@ -4,6 +4,7 @@
 # Goal: 100,000 steps within 2 seconds, and a time linear in the steps.
 set -eu
 cd "$(dirname "$0")/.."
+. bench/timing.sh
 steps=${1:-100000}
 seed=${2:-1}
 tenth=$((steps / 10))
@@ -13,28 +14,13 @@ trap 'rm -rf "$dir"' EXIT
 python3 bench/scripts.py "$seed" "$steps" > "$dir/script"
 python3 bench/scripts.py "$seed" "$tenth" > "$dir/tenth"
 
-# microseconds COMMAND INPUT OUTPUT: the time of one run
-microseconds() {
-    begun=$(date +%s%N)
-    $1 < "$2" > "$3"
-    ended=$(date +%s%N)
-    echo $(((ended - begun) / 1000))
-}
-
-# best_of_5 COMMAND INPUT OUTPUT: the least time of five runs
-best_of_5() {
-    for run in 1 2 3 4 5; do
-        microseconds "$@"
-    done | sort -n | head -n 1
-}
-
 ./lowhitape exchange < /dev/null                      # builds, if need be
 program=target/bin/exchange                           # what the front has built, without the front's own time
 $program < "$dir/script" > "$dir/exchange.out"        # warms up
 
-start=$(best_of_5 "$program" /dev/null "$dir/none.out")
-whole=$(best_of_5 "$program" "$dir/script" "$dir/exchange.out")
-part=$(best_of_5 "$program" "$dir/tenth" "$dir/tenth.out")
+start=$(best_of 5 "$program" /dev/null "$dir/none.out")
+whole=$(best_of 5 "$program" "$dir/script" "$dir/exchange.out")
+part=$(best_of 5 "$program" "$dir/tenth" "$dir/tenth.out")
 python=$(microseconds "python3 bench/exchange_model.py" "$dir/script" "$dir/python.out")
 python3 bench/exchange_model.py < "$dir/tenth" > "$dir/python-tenth.out"
 
@@ -45,10 +31,9 @@ BEGIN {
     printf "exchange, %8d steps       %10.3f s (best of 5; goal for 100000: at most 2)\n", steps, whole / 1e6
     printf "python,   %8d steps       %10.3f s\n", steps, python / 1e6
     printf "steps a second                 %10.0f\n", steps * 1e6 / whole
-    printf "%8d : %8d steps      %10.2f   (linear: about 10", steps, tenth, whole / part
-    if (part > start) printf "; %.2f without the start-up", (whole - start) / (part - start)
-    printf ")\n"
 }'
+printf '%8d : %8d steps      %10s   (linear: about 10; %s without the start-up)\n' "$steps" "$tenth" \
+    "$(ratio "$whole" "$part")" "$(ratio $((whole - start)) $((part - start)))"
 
 # compare SCRIPT ANSWERS MODEL: says whether a script's answers are the model's, and where they first differ
 compare() {

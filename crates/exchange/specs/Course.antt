@@ -1,13 +1,12 @@
 -- What the lines of a script are answered, and what they do to the exchange that goes on. Assumes nothing.
 use Rattle.std.specs.Prelude.{◌≡◌, ℕ, Bool, cond, List, [], ◌∷◌, ◌++◌, Some, None, string_bytes, codes, Option}
 use Rattle.lines.specs.Cutting.{ended, going_on, input_lines, kept}
-use Rattle.lines.specs.Spelling.{within}
 use Rattle.line.specs.Outboxes.{waiting}
 use Rattle.tables.specs.LevelWords.{Offers}
 use Rattle.tables.specs.declared.refusal.LevelRefusal.{LevelRefusal}
-use Rattle.tables.specs.declared.refusal.LevelRefusal.TheVariants.{Size, Conferences}
 use Rattle.operator.specs.declared.steps.Step.TheVariants as step
 use Rattle.exchange.specs.Answers.{answer_text, collected_text, reply_text}
+use Rattle.script.specs.Levels.{no_level}
 use Rattle.script.specs.Script.{Said, blank, not_understood, level, reported, request, collect, parsed}
 use Rattle.exchange.specs.Services.{account, answer_in, New, request_text, Requested, Stepped}
 use Rattle.exchange.specs.declared.answer.Reply.TheVariants.{LevelRefused, NoLevel, NotUnderstood}
@@ -23,10 +22,6 @@ line text = text ++ codes "\n"
 abbrev pub last_account : Option Service → List ℕ
 last_account None = []
 last_account (Some x) = line (account x)
-
--- why there is no such level, if there is none: the size is looked at first
-abbrev pub no_level : ℕ → ℕ → Option LevelRefusal
-no_level size conferences = cond (within 1 30 size) (cond (within 1 8 conferences) None (Some Conferences)) (Some Size)
 
 -- a level is answered by the account of the exchange before it, or by why there is none
 abbrev pub level_text : Option LevelRefusal → Option Service → List ℕ

@@ -22,7 +22,7 @@ use Rattle.operator.specs.Roster.{Entry, down, on, party, is_up, is_in, is_on, i
 use Rattle.operator.proofs.Calling.{calls_changed, calls_set}
 use Rattle.operator.proofs.Conferring.{there_linked, linked_begun, once_begun, linked_map}
 use Rattle.operator.proofs.Counts.{Changed, ups_changed, count_none}
-use Rattle.operator.proofs.Entries.{itself, sized_changed, sized_joined, others_apart}
+use Rattle.operator.proofs.Entries.{itself, sized_changed, sized_joined, no_other_leg}
 use Rattle.operator.proofs.Holding.{Kept, Led, Calls, Parties, Sized, as_parties, mark_of}
 use Rattle.operator.proofs.Keeping.{with_legs, changed_at, alone_on, counted_none, kept_gone}
 use Rattle.operator.proofs.Lists.{In, in_filter, in_filtered, none_found, in_append, in_map}
@@ -183,7 +183,7 @@ kept_begun {r} {t} {s} s' d c lt none fresh most leads led same kept = record {
 party_changed : {r : Roster} {t : Table} {s : Standings} (l id p j : ℕ) (b : Bool) (new : ℕ → Entry → Entry) → r.legs l ≡ party id p j b → Kept r t s
     → Changed l (new l (r.legs l)) r.legs (λ k. cond (is_party id p (r.legs k)) (new k (r.legs k)) (r.legs k))
 party_changed {r} l id p j b new was kept =
-    changed_at (is_party id p) new l r.legs (kept.holds.ranged l (ap is_up was)) (itself l id p j b r.legs was) (others_apart l id p j b r.legs kept.holds.apart was)
+    changed_at (is_party id p) new l r.legs (kept.holds.ranged l (ap is_up was)) (itself l id p j b r.legs was) (no_other_leg l id p j b r.legs kept.holds.one_leg_each was)
 
 -- a party is split off: it is on a call of its own
 pub kept_split : {r : Roster} {t : Table} {s : Standings} (s' : Standings) (l ref id p j : ℕ) (b : Bool) (c : Call) → ref < 128 → r.legs l ≡ party id p j b → r.links ref ≡ None → ((k : ℕ) → leads_to_leg k (call_at t ref).state ≡ false) → c.state ≡ Idle (end.Leg l)
@@ -241,7 +241,7 @@ kept_marked_so {r} {t} {s} l id p j b was kept = subst (λ ls. Kept (counted 0 0
     same : (k : ℕ) → cond (is_party id p (r.legs k)) (isolated_as b (r.legs k)) (r.legs k) ≡ r.legs k
     same k = elim (cases_eq k l) [
       | inl is ↦ rw (is, itself l id p j b r.legs was, was)
-      | inr ne ↦ rw (others_apart l id p j b r.legs kept.holds.apart was k ne)
+      | inr ne ↦ rw (no_other_leg l id p j b r.legs kept.holds.one_leg_each was k ne)
     ]
 
 -- a party dropped goes down

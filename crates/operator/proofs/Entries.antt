@@ -4,22 +4,22 @@ use Rattle.std.proofs.lemmas.Bool.{cases_Bool, cases_eq}
 use Rattle.tables.specs.declared.conference.Conference.{Conference}
 use Rattle.operator.specs.Roster.{Entry, party, is_up, is_in, is_party, members}
 use Rattle.operator.proofs.Counts.{one, Changed, members_changed}
-use Rattle.operator.proofs.Holding.{Ranged, Apart, Housed, Sized}
+use Rattle.operator.proofs.Holding.{Ranged, OneLegEach, Housed, Sized}
 
 -- who is up then is on a leg that there is
 pub ranged_changed : {l : ℕ} {e : Entry} {legs legs' : ℕ → Entry} → Changed l e legs legs' → Ranged legs → Ranged legs'
 ranged_changed {l} ch ranged k up = elim (cases_eq k l) [ inl is ↦ rw is ch.leg | inr ne ↦ ranged k (sym (ap is_up (ch.others k ne)) ∙ up) ]
 
 -- the new entry has a PartyId that no other leg has, or none
-pub apart_changed : {l : ℕ} {e : Entry} {legs legs' : ℕ → Entry} → Changed l e legs legs' → ((k c p : ℕ) → k ≢ l → is_party c p e ≡ true → is_party c p (legs k) ≡ true → ⊥) → Apart legs → Apart legs'
-apart_changed {l} {e} {legs} {legs'} ch fresh apart k j c p is_k is_j = elim (cases_eq k l) [
+pub one_leg_changed : {l : ℕ} {e : Entry} {legs legs' : ℕ → Entry} → Changed l e legs legs' → ((k c p : ℕ) → k ≢ l → is_party c p e ≡ true → is_party c p (legs k) ≡ true → ⊥) → OneLegEach legs → OneLegEach legs'
+one_leg_changed {l} {e} {legs} {legs'} ch fresh each k j c p is_k is_j = elim (cases_eq k l) [
   | inl a ↦ elim (cases_eq j l) [
     | inl b ↦ a ∙ sym b
     | inr b ↦ absurd (fresh j c p b (rw (a, ch.here) at is_k) (rw (ch.others j b) at is_j))
   ]
   | inr a ↦ elim (cases_eq j l) [
     | inl b ↦ absurd (fresh k c p a (rw (b, ch.here) at is_j) (rw (ch.others k a) at is_k))
-    | inr b ↦ apart k j c p (rw (ch.others k a) at is_k) (rw (ch.others j b) at is_j)
+    | inr b ↦ each k j c p (rw (ch.others k a) at is_k) (rw (ch.others j b) at is_j)
   ]
 ]
 
@@ -28,9 +28,9 @@ pub itself : (l c p j : ℕ) (b : Bool) (legs : ℕ → Entry) → legs l ≡ pa
 itself l c p j b legs was = rw (was, eq-eqb c c refl, eq-eqb p p refl)
 
 -- and no other leg is
-pub others_apart : (l c p j : ℕ) (b : Bool) (legs : ℕ → Entry) → Apart legs → legs l ≡ party c p j b → (k : ℕ) → k ≢ l → is_party c p (legs k) ≡ false
-others_apart l c p j b legs apart was k ne = elim (cases_Bool (is_party c p (legs k))) [
-  | inl has ↦ absurd (ne (apart k l c p has (itself l c p j b legs was)))
+pub no_other_leg : (l c p j : ℕ) (b : Bool) (legs : ℕ → Entry) → OneLegEach legs → legs l ≡ party c p j b → (k : ℕ) → k ≢ l → is_party c p (legs k) ≡ false
+no_other_leg l c p j b legs each was k ne = elim (cases_Bool (is_party c p (legs k))) [
+  | inl has ↦ absurd (ne (each k l c p has (itself l c p j b legs was)))
   | inr hasn't ↦ hasn't
 ]
 

@@ -50,8 +50,8 @@ abbrev pub Ranged : (ℕ → Entry) → Type 0
 Ranged legs = (k : ℕ) → is_up (legs k) ≡ true → Leg k
 
 -- no two legs have one PartyId
-abbrev pub Apart : (ℕ → Entry) → Type 0
-Apart legs = (k l c p : ℕ) → is_party c p (legs k) ≡ true → is_party c p (legs l) ≡ true → k ≡ l
+abbrev pub OneLegEach : (ℕ → Entry) → Type 0
+OneLegEach legs = (k l c p : ℕ) → is_party c p (legs k) ≡ true → is_party c p (legs l) ≡ true → k ≡ l
 
 -- calls and roster agree on the legs of calls, and on links
 pub record Calls (legs : ℕ → Entry) (links : ℕ → Option ℕ) (cs : List Call) : Type 0 where
@@ -81,7 +81,7 @@ pub record Sized (legs : ℕ → Entry) (c : Conference) : Type 0 where
 
 pub record Holds (legs : ℕ → Entry) (links : ℕ → Option ℕ) (calls : List Call) (conferences : List Conference) (parties : List Party) (s : Standings) : Type 0 where
   pub ranged : Ranged legs
-  pub apart : Apart legs
+  pub one_leg_each : OneLegEach legs
   pub calls_fit : Calls legs links calls
   pub parties_fit : Parties legs parties
   pub linked : Linked links conferences

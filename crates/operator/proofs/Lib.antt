@@ -16,4 +16,3 @@ pub mod Attending
 pub mod Reading
 pub mod Requesting
 pub mod Running
-pub mod Worked

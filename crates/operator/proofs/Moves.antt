@@ -19,7 +19,7 @@ use Rattle.operator.specs.Roster.{Entry, is_on, down, party, is_up, is_in, is_pa
 use Rattle.operator.proofs.Calling.{calls_same}
 use Rattle.operator.proofs.Conferring.{linked_begun, once_begun, linked_map, linked_ended, once_ended}
 use Rattle.operator.proofs.Counts.{by_leg, Changed, members_changed, others_changed, others_own, count_same, count_none}
-use Rattle.operator.proofs.Entries.{ranged_changed, apart_changed, others_apart, housed_changed, sized_changed}
+use Rattle.operator.proofs.Entries.{ranged_changed, one_leg_changed, no_other_leg, housed_changed, sized_changed}
 use Rattle.operator.proofs.Holding.{Holds, Calls, RightAt, Right, Sized, Linked, Once, as_parties, mark_of}
 use Rattle.operator.proofs.Lists.{In, in_append, in_map, in_filtered}
 use Rattle.operator.proofs.Looking.{nobody_in}
@@ -31,7 +31,7 @@ pub unmoved : (legs : ℕ → Entry) (links : ℕ → Option ℕ) (calls calls' 
     → Calls legs links calls' → ((k : ℕ) → s' k ≡ s k) → Holds legs links calls cs ps s → Holds legs links calls' cs ps s'
 unmoved legs links calls calls' cs ps s s' fit same h = record {
   ranged = h.ranged;
-  apart = h.apart;
+  one_leg_each = h.one_leg_each;
   calls_fit = fit;
   parties_fit = h.parties_fit;
   linked = h.linked;
@@ -51,7 +51,7 @@ pub remapped : (f : Conference → Conference) (legs : ℕ → Entry) (links : �
     → Holds legs links calls cs ps s → Holds legs links calls (map f cs) ps s
 remapped f legs links calls cs ps s id_is link_is size_is h = record {
   ranged = h.ranged;
-  apart = h.apart;
+  one_leg_each = h.one_leg_each;
   calls_fit = h.calls_fit;
   parties_fit = h.parties_fit;
   linked = linked_map links f cs id_is link_is h.linked;
@@ -72,7 +72,7 @@ pub placed : (l : ℕ) (e : Entry) (legs legs' : ℕ → Entry) (links : ℕ →
     → Calls legs' links calls' → ((k : ℕ) → s' k ≡ s k) → Holds legs links calls cs ps s → Holds legs' links calls' cs ps s'
 placed l e legs legs' links calls calls' cs ps s s' ch none none' out out' no_party right fit same h = record {
   ranged = ranged_changed ch h.ranged;
-  apart = apart_changed ch (λ k c p ne is is'. true≢false (sym is ∙ no_party c p)) h.apart;
+  one_leg_each = one_leg_changed ch (λ k c p ne is is'. true≢false (sym is ∙ no_party c p)) h.one_leg_each;
   calls_fit = fit;
   parties_fit = parties_same l e legs legs' ps ch none none' h.parties_fit;
   linked = h.linked;
@@ -92,7 +92,7 @@ pub joined : (l id p : ℕ) (legs legs' : ℕ → Entry) (links links' : ℕ →
     → Holds legs links calls cs ps s → Holds legs' links' calls' cs' (ps ++ (record { conference = id; id = p; leg = l; mark = Joined } ∷ [])) s'
 joined l id p legs legs' links links' calls calls' cs cs' ps s s' ch none out fresh fit linked once kept there sized own hears h = record {
   ranged = ranged_changed ch h.ranged;
-  apart = apart_changed ch (λ k c q ne is is'. taken k c q is is') h.apart;
+  one_leg_each = one_leg_changed ch (λ k c q ne is is'. taken k c q is is') h.one_leg_each;
   calls_fit = fit;
   parties_fit = parties_joined l id p (others_in id l legs) legs legs' ps ch none h.parties_fit;
   linked = linked;
@@ -121,18 +121,18 @@ pub left : (l id p j : ℕ) (b : Bool) (e : Entry) (n : Notice) (legs legs' : �
     → Holds legs links calls cs ps s → Holds legs' links calls' cs (filter (λ q. not (eqb q.conference id && eqb q.id p)) ps) s'
 left l id p j b e n legs legs' links calls calls' cs ps s s' ch was none out no_party right fit gone hears h = record {
   ranged = ranged_changed ch h.ranged;
-  apart = apart_changed ch (λ k c p ne is is'. true≢false (sym is ∙ no_party c p)) h.apart;
+  one_leg_each = one_leg_changed ch (λ k c p ne is is'. true≢false (sym is ∙ no_party c p)) h.one_leg_each;
   calls_fit = fit;
-  parties_fit = parties_left l id p j b e legs legs' ps ch none was apart h.parties_fit;
+  parties_fit = parties_left l id p j b e legs legs' ps ch none was no_other h.parties_fit;
   linked = h.linked;
   once = h.once;
   housed = housed_changed ch (λ c is. absurd (true≢false (sym is ∙ out c))) (λ ref c is. is) h.housed;
   sized = λ c is. sized_changed c ch (out c.id) (h.sized c is);
-  told = by_leg (λ k e. RightAt k e legs' s') ch right (λ k ne. left_at k id p n (legs k) legs legs' s s' gone (apart k ne) (λ m. let count = rw (was, out m) at (others_changed m k (λ is. ne (sym is)) ch) in omega arith) (hears k ne) (h.told k));
+  told = by_leg (λ k e. RightAt k e legs' s') ch right (λ k ne. left_at k id p n (legs k) legs legs' s s' gone (no_other k ne) (λ m. let count = rw (was, out m) at (others_changed m k (λ is. ne (sym is)) ch) in omega arith) (hears k ne) (h.told k));
 }
   where
-    apart : (k : ℕ) → k ≢ l → is_party id p (legs k) ≡ false
-    apart = others_apart l id p j b legs h.apart was
+    no_other : (k : ℕ) → k ≢ l → is_party id p (legs k) ≡ false
+    no_other = no_other_leg l id p j b legs h.one_leg_each was
 
 -- a party is marked: it hears so, and the others hear what changes nothing for them
 pub remarked : (l id p j : ℕ) (b b' : Bool) (legs legs' : ℕ → Entry) (links : ℕ → Option ℕ) (calls : List Call) (cs : List Conference) (ps : List Party) (s s' : Standings)
@@ -142,9 +142,9 @@ pub remarked : (l id p j : ℕ) (b b' : Bool) (legs legs' : ℕ → Entry) (link
     → Holds legs links calls cs ps s → Holds legs' links calls cs (map (marked id p (mark_of b')) ps) s'
 remarked l id p j b b' legs legs' links calls cs ps s s' ch was sum latest hears h = record {
   ranged = ranged_changed ch h.ranged;
-  apart = apart_changed ch (λ k c q ne is is'. absurd (ne (h.apart k l c q is' (rw was is)))) h.apart;
+  one_leg_each = one_leg_changed ch (λ k c q ne is is'. absurd (ne (h.one_leg_each k l c q is' (rw was is)))) h.one_leg_each;
   calls_fit = calls_same legs legs' links calls h.calls_fit (λ k q. by_leg (λ k e. is_on q e ≡ is_on q (legs k)) ch (rw was) (λ k ne. refl) k);
-  parties_fit = parties_marked l id p j b b' legs legs' ps ch was apart h.parties_fit;
+  parties_fit = parties_marked l id p j b b' legs legs' ps ch was no_other h.parties_fit;
   linked = h.linked;
   once = h.once;
   housed = housed_changed ch (λ c is. h.housed l c (rw was is)) (λ ref c is. is) h.housed;
@@ -156,8 +156,8 @@ remarked l id p j b b' legs legs' links calls cs ps s s' ch was sum latest hears
   }) (λ k ne. quiet_at k (legs k) legs legs' s s' (λ m is. let count = rw was at (others_changed m k (λ is. ne (sym is)) ch) in omega arith) (hears k ne) (h.told k));
 }
   where
-    apart : (k : ℕ) → k ≢ l → is_party id p (legs k) ≡ false
-    apart = others_apart l id p j b legs h.apart was
+    no_other : (k : ℕ) → k ≢ l → is_party id p (legs k) ≡ false
+    no_other = no_other_leg l id p j b legs h.one_leg_each was
 
     was_right : Right l id j b legs s
     was_right = rw was at (h.told l)
@@ -168,7 +168,7 @@ pub begun : (c : Conference) (legs : ℕ → Entry) (links : ℕ → Option ℕ)
     → Holds legs links calls cs ps s → Holds legs (λ r. cond (eqb r c.link) (Some c.id) (links r)) calls' (cs ++ (c ∷ [])) ps s'
 begun c legs links calls calls' cs ps s s' none fresh most fit same h = record {
   ranged = h.ranged;
-  apart = h.apart;
+  one_leg_each = h.one_leg_each;
   calls_fit = fit;
   parties_fit = h.parties_fit;
   linked = linked_begun links cs c none h.linked;
@@ -213,7 +213,7 @@ pub ended : (m ref : ℕ) (legs : ℕ → Entry) (links : ℕ → Option ℕ) (c
     → Holds (λ k. cond (is_in m (legs k)) down (legs k)) (λ r. cond (eqb r ref) None (links r)) calls' (filter (λ c. not (eqb c.id m)) cs) (filter (λ q. not (eqb q.conference m)) ps) s'
 ended m ref legs links calls calls' cs ps s s' linked fit same h = record {
   ranged = λ k up. h.ranged k (struck_up m (legs k) up);
-  apart = λ k l c p is is'. h.apart k l c p (struck_party m c p (legs k) is) (struck_party m c p (legs l) is');
+  one_leg_each = λ k l c p is is'. h.one_leg_each k l c p (struck_party m c p (legs k) is) (struck_party m c p (legs l) is');
   calls_fit = fit;
   parties_fit = parties_ended m legs ps h.parties_fit;
   linked = linked_ended links cs ref m linked h.once h.linked;

@@ -41,7 +41,7 @@ pub kept_new : (s : Standings) → Kept empty new_table s
 kept_new s = record {
   holds = record {
     ranged = λ k up. absurd (true≢false (sym up));
-    apart = λ k l c p is is'. absurd (true≢false (sym is));
+    one_leg_each = λ k l c p is is'. absurd (true≢false (sym is));
     calls_fit = record {
       long = refl;
       led_to = λ k ref. rw (new_call ref);

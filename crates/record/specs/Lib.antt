@@ -1,2 +1,5 @@
-pub mod Keeping
 pub mod Remarks
+pub mod Deeds
+pub mod Recordings
+pub mod Keeping
+pub mod Courses

@@ -1,5 +1,5 @@
 -- The text of what is said of lines that are not recorded. Assumes nothing.
-use Rattle.std.specs.Prelude.{ℕ, List, ◌++◌, codes, decimal}
+use Rattle.std.specs.Prelude.{ℕ, Bool, true, false, List, [], ◌++◌, codes, decimal}
 use Rattle.components.specs.Wording.{fault_text}
 use Rattle.tables.specs.Refusals.{refusal_number, level_refusal_number}
 use Rattle.record.specs.declared.remark.Reason.{Reason}
@@ -18,3 +18,12 @@ reason_text (Full calls) = codes "reel full after " ++ (decimal calls ++ codes "
 -- the line and the reason
 abbrev pub remark_text : Remark → List ℕ
 remark_text r = codes "line " ++ (decimal r.line ++ (codes ": " ++ reason_text r.reason))
+
+-- what is written of a line
+abbrev pub line_remark : ℕ → Reason → List ℕ
+line_remark line why = codes "record: " ++ (remark_text (record { line = line; reason = why }) ++ codes "\n")
+
+-- what is written behind the last line: that there was no level, if there was none
+abbrev pub last_remark : Bool → List ℕ
+last_remark true = []
+last_remark false = codes "record: " ++ (reason_text NoLevel ++ codes "\n")

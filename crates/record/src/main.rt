@@ -5,6 +5,7 @@ mod course;
 mod recorder;
 mod remark;
 mod runner;
+mod service;
 mod tape;
 
 use lines::answer_input_on;
@@ -13,7 +14,8 @@ use std::io;
 use std::io::Write;
 use std::process::ExitCode;
 
-// Records the script on standard input, and writes the reel to standard output: whether nothing is amiss.
+// Records the script on standard input, and writes the reel to standard output: whether an exchange has begun, and all of its calls
+// are on it.
 fn run(rt: &HostRuntime) -> io::Result<bool> {
     let mut runner = Runner::new(rt.alloc())?;
     answer_input_on(rt, &mut runner, &mut rt.stderr())?;

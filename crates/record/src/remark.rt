@@ -7,6 +7,7 @@ use facility::Fault;
 use std::fmt;
 use tables::{LevelRefusal, Refusal};
 
+// Why a line is not recorded.
 #[derive(Clone, Copy)]
 pub enum Reason {
     NotUnderstood,

@@ -1,12 +1,14 @@
 // Cuts a script into lines, and records them.
-ghost use Rattle.std.specs.Prelude.{◌≡◌, IfOk, string_bytes};
-ghost use Rattle.record.specs.Keeping.{Keeps};
+ghost use Rattle.std.specs.Prelude.{◌≡◌, ℕ, List, [], ◌∷◌, ◌++◌, IfOk, OnOk, string_bytes};
+ghost use Rattle.lines.specs.Cutting.{ended, going_on, kept};
+ghost use Rattle.record.specs.Courses.{Ends, LeadOn, Runs};
 
 use crate::recorder::Recorder;
 use lines::{Answerer, LineCutter};
 use std::alloc::{AllocError, Global};
 
-// The line that goes on behind the input so far, and what records it.
+// The line that goes on behind the input so far, and what records it. The clauses `run` name the input and what was written of the
+// remarks, since neither is kept in memory.
 #[derive(Drop)]
 pub struct Runner {
     lines: LineCutter,
@@ -16,7 +18,7 @@ pub struct Runner {
 impl Runner {
     // No input yet.
     pub fn new(heap: Global) -> Result<Runner, AllocError>
-        ensures { IfOk result (λ runner. Keeps runner.recorder.course) }
+        ensures { IfOk result (λ runner. Runs [] [] runner) }
     {
         Ok(Runner {
             lines: LineCutter::new(heap),
@@ -26,7 +28,8 @@ impl Runner {
 
     // Records the line that has ended.
     fn end_line(&mut self) -> Result<(), AllocError>
-        ensures { Keeps self.old.recorder.course → Keeps self.new.recorder.course }
+        ensures kept { OnOk result (kept self.new.lines ≡ []) }
+        ensures ran { OnOk result (LeadOn (kept self.old.lines ∷ []) self.old.recorder self.new.recorder) }
     {
         self.recorder.take_line(self.lines.line())?;
         self.lines.clear();
@@ -37,14 +40,18 @@ impl Runner {
     pub fn into_recorder(self) -> Recorder
         ensures { result ≡ self.recorder }
     {
-        self.recorder
+        let Runner { recorder, .. } = self;
+        recorder
     }
 }
 
 impl Answerer for Runner {
-    // Records each line that ends in the block, and keeps the one that goes on.
+    // Records each line that ends in the block, and keeps the one that goes on. How the input is cut into blocks makes no
+    // difference.
     fn take_block(&mut self, block: &[u8]) -> Result<(), AllocError>
-        ensures { Keeps self.old.recorder.course → Keeps self.new.recorder.course }
+        ensures kept { OnOk result (kept self.new.lines ≡ going_on (kept self.old.lines) block.now) }
+        ensures ran { OnOk result (LeadOn (ended (kept self.old.lines) block.now) self.old.recorder self.new.recorder) }
+        ensures run { OnOk result ((input written : List ℕ) → Runs input written self.old → Runs (input ++ block.now) written self.new) }
     {
         let mut rest = block;
         while let Some(next) = self.lines.take(rest)? {
@@ -56,7 +63,7 @@ impl Answerer for Runner {
 
     // Records the line that the input ends with.
     fn end(&mut self) -> Result<(), AllocError>
-        ensures { Keeps self.old.recorder.course → Keeps self.new.recorder.course }
+        ensures run { OnOk result ((input written : List ℕ) → Runs input written self.old → Ends input (written ++ string_bytes self.new.recorder.remarks) self.new.recorder.course) }
     {
         self.end_line()?;
         self.recorder.end()
@@ -71,7 +78,8 @@ impl Answerer for Runner {
 
     // Makes room for more remarks, once these are written.
     fn forget_answers(&mut self)
-        ensures { self.new.recorder.course ≡ self.old.recorder.course }
+        ensures remarks { string_bytes self.new.recorder.remarks ≡ [] }
+        ensures run { (input written : List ℕ) → Runs input written self.old → Runs input (written ++ string_bytes self.old.recorder.remarks) self.new }
     {
         self.recorder.forget_remarks();
     }

@@ -4,13 +4,14 @@
 mod outcome;
 
 use outcome::Outcome;
+use reel::MOST_OCTETS;
 use std::io;
 use std::io::{Read, Write};
 use std::process::ExitCode;
 use tables::Level;
 
 // One octet more than a reel may have: input that is longer is no reel, and is not read further.
-const ENOUGH: u64 = 65537;
+const ENOUGH: u64 = MOST_OCTETS as u64 + 1;
 
 // Replays standard input, and writes what comes of it, and to standard error the fault of an element: whether it is a reel.
 fn run(rt: &HostRuntime) -> io::Result<bool> {

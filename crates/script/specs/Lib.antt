@@ -1,3 +1,4 @@
 pub mod Keywords
 pub mod Script
 pub mod Words
+pub mod Levels
