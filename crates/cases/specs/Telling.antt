@@ -3,7 +3,8 @@ use Rattle.std.specs.Prelude.{◌≡◌, ℕ, List, [], ◌∷◌, pos, negsuc, 
 use Rattle.line.specs.declared.notice.Notice.{Notice}
 use Rattle.line.specs.declared.notice.Notice.TheVariants.{Established, OtherAdded, OtherDisconnected}
 use Rattle.line.specs.declared.standing.OwnNotice.TheVariants as latest
-use Rattle.line.specs.Acts.{Telling, notices_to, heard}
+use Rattle.line.specs.Acts.{notices_to, heard}
+use Rattle.line.specs.Order.{Telling}
 use Rattle.line.specs.Meaning.{Leg}
 use Rattle.line.specs.Notices.{fresh}
 use Rattle.line.specs.Outboxes.{notify}

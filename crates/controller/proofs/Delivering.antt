@@ -10,7 +10,8 @@ use Rattle.line.specs.declared.meaning.Refusal.{Refusal}
 use Rattle.line.specs.declared.meaning.Refusal.TheVariants.{NoSuchLeg, NoRoom}
 use Rattle.line.specs.declared.notice.Notice.{Notice}
 use Rattle.line.specs.declared.standing.Standing.{Standing}
-use Rattle.line.specs.Acts.{Telling, heard, notices_to}
+use Rattle.line.specs.Acts.{heard, notices_to}
+use Rattle.line.specs.Order.{Telling}
 use Rattle.line.specs.Meaning.{Leg, Standings, Tells}
 use Rattle.line.specs.Notices.{after}
 use Rattle.line.specs.Telling.{EachDone, TellsEach, times, repeated}

@@ -9,7 +9,7 @@ use Rattle.facility.specs.declared.request.Request.{Request}
 use Rattle.facility.specs.declared.request.Request.TheVariants as request
 use Rattle.line.specs.declared.notice.Notice.{Notice}
 use Rattle.line.specs.declared.notice.Notice.TheVariants.{OtherDisconnected}
-use Rattle.line.specs.Acts.{Telling}
+use Rattle.line.specs.Order.{Telling}
 use Rattle.line.specs.Meaning.{Leg}
 use Rattle.tables.specs.declared.call.Call.{Call}
 use Rattle.tables.specs.declared.call.Event.TheVariants as event

@@ -1,6 +1,7 @@
 -- What each report does, or why it is refused. Assumes nothing.
-use Rattle.std.specs.Prelude.{ℕ, Bool, cond, not, ◌&&◌, [], length, Some, None, Ok, Err, Option, Result, nat_le}
+use Rattle.std.specs.Prelude.{ℕ, Bool, cond, not, ◌&&◌, List, [], length, Some, None, Ok, Err, Option, Result, nat_le}
 use Rattle.std.specs.Option.{option_map}
+use Rattle.line.specs.declared.notice.Notice.{Notice}
 use Rattle.line.specs.declared.notice.Notice.TheVariants.{OtherDisconnected}
 use Rattle.tables.specs.declared.call.Call.{Call}
 use Rattle.tables.specs.declared.call.End.TheVariants as end
@@ -85,6 +86,11 @@ abbrev pub leg_cleared : ℕ → Table → Option ℕ → Option Party → Resul
 leg_cleared room t (Some r) q = by_event (next_call event.RemoteClearing (call_at t r)) (λ c. Ok (quiet (with_call r c t) 1))
 leg_cleared room t None (Some p) = unless (nat_le (length (others t p.conference p.id)) room) NoRoom (Ok (party_cleared t p (conference_with t p.conference)))
 leg_cleared room t None None = Err WrongLeg
+
+-- what a report tells
+abbrev pub told_in : Result Accepted Refusal → List (ℕ × Notice)
+told_in (Ok a) = a.effect.told
+told_in (Err why) = []
 
 -- the reference and the leg that a report names are in range
 abbrev pub in_range : Report → Bool

@@ -1,6 +1,7 @@
 -- What is told on a line, one notice after another. Assumes nothing.
 use Rattle.std.specs.Prelude.{◌≡◌, ℕ, ◌+◌, ◌≤◌, List, length, All}
-use Rattle.line.specs.Acts.{Telling, heard, notices_to}
+use Rattle.line.specs.Acts.{heard, notices_to}
+use Rattle.line.specs.Order.{Telling}
 use Rattle.line.specs.Meaning.{Leg, Standings}
 
 -- each leg has heard, in order, what it was told

@@ -5,6 +5,7 @@ ghost use Rattle.controller.specs.Judging.{reference_of};
 ghost use Rattle.controller.specs.Outcomes.{Settles};
 ghost use Rattle.controller.specs.Replies.{settled, turned_away};
 ghost use Rattle.controller.specs.Steps.{is_reference};
+ghost use Rattle.line.specs.Order.{TellsInOrder};
 ghost use Rattle.tables.specs.declared.refusal.Refusal.TheVariants.{OutOfRange};
 
 use crate::carrier::Carrier;
@@ -46,6 +47,7 @@ impl PendingReply {
     #[tactic(auto, using(crate::proofs::Tellable::granted_tellable, crate::proofs::Granted::granted_apart, crate::proofs::Passing::operation_granted))]
     pub fn settle<L: Line>(self, controller: &mut Controller, line: &mut L) -> Reply
         ensures answered { Settles (settled controller.old.level (L.room line.old) self.carrier self.asked controller.old.tables) result controller.new.tables (L.standing line.old) (L.standing line.new) (L.room line.old) (L.room line.new) }
+        ensures order { TellsInOrder L.tells (settled controller.old.level (L.room line.old) self.carrier self.asked controller.old.tables).effect.told line.old line.new }
         ensures level { controller.new.level ≡ controller.old.level }
     {
         let PendingReply { carrier, asked } = self;

@@ -4,6 +4,7 @@ ghost use Rattle.std.specs.Prelude.{◌≡◌, [], length};
 ghost use Rattle.controller.specs.Deeds.{deed_effect, told_list};
 ghost use Rattle.controller.specs.Steps.{each, others};
 ghost use Rattle.controller.specs.Telling.{Delivered, Tellable};
+ghost use Rattle.line.specs.Order.{TellsInOrder};
 ghost use Rattle.tables.specs.Table.{legs_of};
 
 use crate::deed::Deed;
@@ -61,7 +62,8 @@ fn legs_of(parties: &ArrayVec<Party, 64>) -> ArrayVec<u8, 64>
 // Tells a notice to a leg, if there is one to tell.
 fn tell_own<L: Line>(own: Option<(u8, Notice)>, line: &mut L)
     requires { Tellable (option_to_list own) (L.room line.old) }
-    ensures { Delivered (option_to_list own) (L.standing line.old) (L.standing line.new) (L.room line.old) (L.room line.new) }
+    ensures delivered { Delivered (option_to_list own) (L.standing line.old) (L.standing line.new) (L.room line.old) (L.room line.new) }
+    ensures order { TellsInOrder L.tells (option_to_list own) line.old line.new }
 {
     if let Some((leg, notice)) = own {
         line.tell(leg, notice).unwrap();
@@ -71,7 +73,8 @@ fn tell_own<L: Line>(own: Option<(u8, Notice)>, line: &mut L)
 // Tells a notice to each of some parties.
 fn tell_parties<L: Line>(parties: &ArrayVec<Party, 64>, notice: Notice, line: &mut L)
     requires { Tellable (each notice parties.now.items) (L.room line.old) }
-    ensures { Delivered (each notice parties.now.items) (L.standing line.old) (L.standing line.new) (L.room line.old) (L.room line.new) }
+    ensures delivered { Delivered (each notice parties.now.items) (L.standing line.old) (L.standing line.new) (L.room line.old) (L.room line.new) }
+    ensures order { TellsInOrder L.tells (each notice parties.now.items) line.old line.new }
 {
     tell_each(line, &legs_of(parties), notice).unwrap();
 }
@@ -102,7 +105,8 @@ impl Told {
     // Tells it all on a line that has room for it.
     pub(crate) fn tell<L: Line>(&self, line: &mut L)
         requires { Tellable (told_list self.now) (L.room line.old) }
-        ensures { Delivered (told_list self.now) (L.standing line.old) (L.standing line.new) (L.room line.old) (L.room line.new) }
+        ensures delivered { Delivered (told_list self.now) (L.standing line.old) (L.standing line.new) (L.room line.old) (L.room line.new) }
+        ensures order { TellsInOrder L.tells (told_list self.now) line.old line.new }
     {
         tell_own(self.own, line);
         tell_parties(&self.hearers, self.other, line);

@@ -10,11 +10,13 @@ use Rattle.line.specs.declared.acts.BothLines.{BothLines}
 use Rattle.line.specs.declared.meaning.Refusal.{Refusal}
 use Rattle.line.specs.declared.meaning.Refusal.TheVariants.{NoSuchLeg, NoRoom}
 use Rattle.line.specs.declared.notice.Notice.{Notice}
-use Rattle.line.specs.Acts.{Telling, Alone, CarriedOut, told, Run, new, next, GoesOn, Both, BothGoOn, NewLines}
+use Rattle.line.specs.declared.outbox.Outbox.{Outbox}
+use Rattle.line.specs.Acts.{Alone, CarriedOut, DoesAct, told, since, messages, Run, new, next, GoesOn, Both, BothGoOn, NewLines}
 use Rattle.line.specs.Boards.{board_standing}
 use Rattle.line.specs.Meaning.{Standings, Same, Hears}
 use Rattle.line.specs.Notices.{after}
-use Rattle.line.specs.Outboxes.{outbox_standing, outbox_room}
+use Rattle.line.specs.Order.{Telling}
+use Rattle.line.specs.Outboxes.{notify, outbox_standing, outbox_room, OutboxCollects, OutboxTells, waiting}
 
 -- a telling that is done adds itself to the tellings that led to the standings
 alone_told : (leg : ℕ) (n : Notice) (s s' : Standings) (ts : List Telling) → Hears leg n s s' → Alone ts s → Alone (ts ++ ((leg, n) ∷ [])) s'
@@ -33,15 +35,15 @@ alone_on Collect s s' room room' (Ok _) done ts so = alone_same s s' ts done.kep
 alone_on Collect s s' room room' (Err _) done ts so = absurd done
 
 -- whatever was done on a line since it was new, each leg's standing is what the notices told to it alone give
-pub run_alone : {acts : List Act} {ts : List Telling} {s : Standings} {room : ℕ} → Run acts ts s room → Alone ts s
+pub run_alone : {acts : List Act} {ts ws : List Telling} {s : Standings} {room : ℕ} → Run acts ts ws s room → Alone ts s
 run_alone (new s room unheard roomy) = unheard
-run_alone (next acts ts act r s s' room room' run done) = alone_on act s s' room room' r done ts (run_alone run)
+run_alone (next acts ts ws act r s s' room room' run done) = alone_on act s s' room room' r done ts (run_alone run)
 
 -- an act carries on whatever run led to the line
 pub goes_on : {act : Act} {r : Result Unit Refusal} {s s' : Standings} {room room' : ℕ} → CarriedOut act s s' room room' r → GoesOn act r s s' room room'
 goes_on {act} {r} {s} {s'} {room} {room'} done = record {
-  run = λ acts ts so_far. next acts ts act r s s' room room' so_far done;
-  alone = λ acts ts so_far. alone_on act s s' room room' r done ts (run_alone so_far);
+  run = λ acts ts ws so_far. next acts ts ws act r s s' room room' so_far done;
+  alone = λ acts ts ws so_far. alone_on act s s' room room' r done ts (run_alone so_far);
 }
 
 -- what one line does not refuse, another with room does not either
@@ -56,21 +58,33 @@ refused_nothing : (act : Act) (e : Refusal) → told act (Err e) ≡ []
 refused_nothing Collect e = refl
 refused_nothing (Tell leg n) e = refl
 
+-- what was told since the last collection waits still, with an act more
+waits_on : (act : Act) (r : Result Unit Refusal) (o o' : Outbox) (ws : List Telling) → DoesAct OutboxTells OutboxCollects act o o' r → waiting o ≡ messages ws → waiting o' ≡ messages (since act r ws)
+waits_on (Tell leg n) (Ok _) o o' ws does was = does ∙ rw was (sym (map-append (λ t. notify t.0 t.1) ws ((leg, n) ∷ [])))
+waits_on (Tell leg n) (Err e) o o' ws does was = rw (does, append-nil ws) was
+waits_on Collect r o o' ws does was = does.handed_over
+
 -- an act that the outbox does not refuse was then done on both
-pub both_told : (act : Act) (r : Result Unit Refusal) {lines lines' : BothLines} → CarriedOut act (outbox_standing lines.outbox) (outbox_standing lines'.outbox) (outbox_room lines.outbox) (outbox_room lines'.outbox) (Ok tt) → CarriedOut act (board_standing lines.board) (board_standing lines'.board) 128 128 r → BothGoOn act lines lines'
-both_told act r outbox board = λ acts both. record {
+pub both_told : (act : Act) (r : Result Unit Refusal) {lines lines' : BothLines} → DoesAct OutboxTells OutboxCollects act lines.outbox lines'.outbox (Ok tt) → CarriedOut act (outbox_standing lines.outbox) (outbox_standing lines'.outbox) (outbox_room lines.outbox) (outbox_room lines'.outbox) (Ok tt) → CarriedOut act (board_standing lines.board) (board_standing lines'.board) 128 128 r → BothGoOn act lines lines'
+both_told act r {lines} {lines'} does outbox board = λ acts both. record {
   taken = both.taken ++ (act ∷ []);
   ts = both.ts ++ told act (Ok tt);
-  outbox = (goes_on outbox).run acts both.ts both.outbox;
-  board = rw (← taken_too act r _ _ _ _ _ _ _ _ outbox (lit< tt) board) ((goes_on board).run both.taken both.ts both.board);
+  ws = since act (Ok tt) both.ws;
+  outbox = (goes_on outbox).run acts both.ts both.ws both.outbox;
+  waits = waits_on act (Ok tt) lines.outbox lines'.outbox both.ws does both.waits;
+  since_then = since act r both.since_then;
+  board = rw (← taken_too act r _ _ _ _ _ _ _ _ outbox (lit< tt) board) ((goes_on board).run both.taken both.ts both.since_then both.board);
 }
 
 -- one that it refuses was done on the outbox alone, and told nothing
-pub both_refused : (act : Act) (e : Refusal) {lines lines' : BothLines} → CarriedOut act (outbox_standing lines.outbox) (outbox_standing lines'.outbox) (outbox_room lines.outbox) (outbox_room lines'.outbox) (Err e) → lines'.board ≡ lines.board → BothGoOn act lines lines'
-both_refused act e outbox same = λ acts both. record {
+pub both_refused : (act : Act) (e : Refusal) {lines lines' : BothLines} → DoesAct OutboxTells OutboxCollects act lines.outbox lines'.outbox (Err e) → CarriedOut act (outbox_standing lines.outbox) (outbox_standing lines'.outbox) (outbox_room lines.outbox) (outbox_room lines'.outbox) (Err e) → lines'.board ≡ lines.board → BothGoOn act lines lines'
+both_refused act e {lines} {lines'} does outbox same = λ acts both. record {
   taken = both.taken;
   ts = both.ts;
-  outbox = simp (refused_nothing act e, append-nil) at ((goes_on outbox).run acts both.ts both.outbox);
+  ws = since act (Err e) both.ws;
+  outbox = simp (refused_nothing act e, append-nil) at ((goes_on outbox).run acts both.ts both.ws both.outbox);
+  waits = waits_on act (Err e) lines.outbox lines'.outbox both.ws does both.waits;
+  since_then = both.since_then;
   board = rw same both.board;
 }
 

@@ -9,11 +9,8 @@ use Rattle.line.specs.declared.standing.Standing.{Standing}
 use Rattle.line.specs.Boards.{board_standing}
 use Rattle.line.specs.Meaning.{Standings, Same, Tells, Collects}
 use Rattle.line.specs.Notices.{fresh, after}
-use Rattle.line.specs.Outboxes.{outbox_standing, outbox_room}
-
--- a leg, and the notice that it was told
-abbrev pub Telling : Type 0
-Telling = ℕ × Notice
+use Rattle.line.specs.Order.{Telling}
+use Rattle.line.specs.Outboxes.{notify, outbox_standing, outbox_room, waiting}
 
 -- the notices told to a leg, in their order
 abbrev pub notices_to : ℕ → List Telling → List Notice
@@ -39,25 +36,47 @@ told (Tell leg notice) (Ok _) = (leg, notice) ∷ []
 told (Tell leg notice) (Err _) = []
 told Collect r = []
 
+-- what was told since the last collection, with an act more
+abbrev pub since : Act → Result Unit Refusal → List Telling → List Telling
+since (Tell leg notice) r waits = waits ++ told (Tell leg notice) r
+since Collect r waits = []
+
+-- what an act does to a line of any kind: a telling tells, unless it is refused and leaves the line as it was, and a collection
+-- collects
+abbrev pub DoesAct : {L : Type 0} → (L → ℕ → Notice → L → Type 0) → (L → L → Type 0) → Act → L → L → Result Unit Refusal → Type 0
+DoesAct tells collects (Tell leg notice) l l' (Ok _) = tells l leg notice l'
+DoesAct tells collects (Tell leg notice) l l' (Err _) = l' ≡ l
+DoesAct tells collects Collect l l' r = collects l l'
+
 -- a line on which a list of acts was done since it was new, with the room of a collected line: each act with an answer that
--- the line's contract gives, where the one before it left off. `ts` are the tellings among them that were not refused
-pub data Run : List Act → List Telling → Standings → ℕ → Type 0 where
-  new : (s : Standings) (room : ℕ) → ((k : ℕ) → s k ≡ fresh) → 64 ≤ room → Run [] [] s room
-  next : (acts : List Act) (ts : List Telling) (act : Act) (r : Result Unit Refusal) (s s' : Standings) (room room' : ℕ) → Run acts ts s room → CarriedOut act s s' room room' r → Run (acts ++ (act ∷ [])) (ts ++ told act r) s' room'
+-- the line's contract gives, where the one before it left off. `ts` are the tellings among them that were not refused, and `ws`
+-- those since the last collection
+pub data Run : List Act → List Telling → List Telling → Standings → ℕ → Type 0 where
+  new : (s : Standings) (room : ℕ) → ((k : ℕ) → s k ≡ fresh) → 64 ≤ room → Run [] [] [] s room
+  next : (acts : List Act) (ts ws : List Telling) (act : Act) (r : Result Unit Refusal) (s s' : Standings) (room room' : ℕ)
+      → Run acts ts ws s room → CarriedOut act s s' room room' r
+      → Run (acts ++ (act ∷ [])) (ts ++ told act r) (since act r ws) s' room'
 
 -- an act carries on whatever run led to the line: then, too, each leg's standing is what the notices told
 -- to it alone give
 pub record GoesOn (act : Act) (r : Result Unit Refusal) (s s' : Standings) (room room' : ℕ) : Type 0 where
-  pub run : (acts : List Act) (ts : List Telling) → Run acts ts s room → Run (acts ++ (act ∷ [])) (ts ++ told act r) s' room'
-  pub alone : (acts : List Act) (ts : List Telling) → Run acts ts s room → Alone (ts ++ told act r) s'
+  pub run : (acts : List Act) (ts ws : List Telling) → Run acts ts ws s room → Run (acts ++ (act ∷ [])) (ts ++ told act r) (since act r ws) s' room'
+  pub alone : (acts : List Act) (ts ws : List Telling) → Run acts ts ws s room → Alone (ts ++ told act r) s'
+
+-- the messages of tellings, in their order
+abbrev pub messages : List Telling → List (List ℕ)
+messages ts = map (λ t. notify t.0 t.1) ts
 
 -- an outbox on which acts were done, and a board on which those were done that the outbox did not refuse: the same was told
--- on both
+-- on both, and what was told since the last collection waits on the outbox, and nothing else
 pub record Both (acts : List Act) (lines : BothLines) : Type 0 where
   pub taken : List Act
   pub ts : List Telling
-  pub outbox : Run acts ts (outbox_standing lines.outbox) (outbox_room lines.outbox)
-  pub board : Run taken ts (board_standing lines.board) 128
+  pub ws : List Telling
+  pub outbox : Run acts ts ws (outbox_standing lines.outbox) (outbox_room lines.outbox)
+  pub waits : waiting lines.outbox ≡ messages ws
+  pub since_then : List Telling
+  pub board : Run taken ts since_then (board_standing lines.board) 128
 
 -- an act carries on whatever acts were done on both
 abbrev pub BothGoOn : Act → BothLines → BothLines → Type 0

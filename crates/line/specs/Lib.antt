@@ -1,6 +1,7 @@
 pub mod Notices
 pub mod Refusals
 pub mod Meaning
+pub mod Order
 pub mod Boards
 pub mod Outboxes
 pub mod Telling

@@ -1,11 +1,11 @@
 -- An outbox: the messages that wait in it, its standings and its room. Assumes nothing.
-use Rattle.std.specs.Prelude.{◌≡◌, ℕ, ◌-◌, ◌<◌, ◌≤◌, List, [], ◌∷◌, ◌++◌, length, Some, None, Ok, Err, Option, Result, slice_index_or}
-use Rattle.line.specs.declared.meaning.Refusal.{Refusal}
+use Rattle.std.specs.Prelude.{◌≡◌, ℕ, ◌-◌, ◌<◌, ◌≤◌, List, [], ◌∷◌, ◌++◌, length, Some, None, Option, slice_index_or}
 use Rattle.line.specs.declared.notice.Notice.{Notice}
 use Rattle.line.specs.declared.outbox.Outbox.{Outbox}
 use Rattle.line.specs.declared.outbox.queue.Waiting.{Waiting}
 use Rattle.line.specs.declared.standing.Standing.{Standing}
 use Rattle.line.specs.Boards.{board_standing}
+use Rattle.line.specs.Meaning.{Same}
 use Rattle.line.specs.Notices.{code_of}
 
 -- the five octets of a message: the leg, NOTIFY, the Notification indicator with its length, the code
@@ -23,10 +23,13 @@ outbox_standing o k = board_standing o.board k
 abbrev pub outbox_room : Outbox → ℕ
 outbox_room o = 128 - length (waiting o)
 
--- what a telling does to the queue: one message more at its end; a refusal leaves the outbox as it was
-abbrev pub Queues : ℕ → Notice → Outbox → Outbox → Result Unit Refusal → Type 0
-Queues leg notice o o' (Ok _) = waiting o' ≡ waiting o ++ (notify leg notice ∷ [])
-Queues leg notice o o' (Err _) = o' ≡ o
+-- a telling has its message wait behind the others, and a collection leaves none: then every standing stays
+abbrev pub OutboxTells : Outbox → ℕ → Notice → Outbox → Type 0
+OutboxTells o leg notice o' = waiting o' ≡ waiting o ++ (notify leg notice ∷ [])
+
+pub record OutboxCollects (o o' : Outbox) : Type 0 where
+  pub handed_over : waiting o' ≡ []
+  pub kept : Same (outbox_standing o) (outbox_standing o')
 
 -- the message at a place, with that place; none past the last
 abbrev pub HandsOut : Outbox → ℕ → Option Waiting → Type 0

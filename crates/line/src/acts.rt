@@ -1,6 +1,6 @@
 // Tellings and collections, one after another, and what they leave on a line.
 ghost use Rattle.std.specs.Prelude.{[]};
-ghost use Rattle.line.specs.Acts.{CarriedOut, GoesOn, Both, BothGoOn, NewLines};
+ghost use Rattle.line.specs.Acts.{CarriedOut, DoesAct, GoesOn, Both, BothGoOn, NewLines};
 
 use crate::board::Board;
 use crate::meaning::{Line, Refusal};
@@ -17,7 +17,8 @@ pub enum Act {
 
 // Does one act on a line; a collection is never refused.
 fn tell_or_collect<L: Line>(line: &mut L, act: Act) -> Result<(), Refusal>
-    ensures { CarriedOut act (L.standing line.old) (L.standing line.new) (L.room line.old) (L.room line.new) result }
+    ensures done { CarriedOut act (L.standing line.old) (L.standing line.new) (L.room line.old) (L.room line.new) result }
+    ensures does { DoesAct L.tells L.collects act line.old line.new result }
 {
     match act {
         Act::Collect => {
@@ -28,10 +29,11 @@ fn tell_or_collect<L: Line>(line: &mut L, act: Act) -> Result<(), Refusal>
     }
 }
 
-// Does one act on a line. Whatever acts led here since the line was new, with whatever answers, this one and its answer
-// carry them on: the standing of each leg stays what the notices told to it alone give.
+// Does one act on a line, and nothing else. Whatever acts led here since the line was new, with whatever answers, this one and its
+// answer carry them on: the standing of each leg stays what the notices told to it alone give.
 pub fn carry_out<L: Line>(line: &mut L, act: Act) -> Result<(), Refusal>
     ensures done { CarriedOut act (L.standing line.old) (L.standing line.new) (L.room line.old) (L.room line.new) result }
+    ensures does { DoesAct L.tells L.collects act line.old line.new result }
     ensures law { GoesOn act result (L.standing line.old) (L.standing line.new) (L.room line.old) (L.room line.new) }
 {
     tell_or_collect(line, act)
@@ -65,7 +67,8 @@ impl BothLines {
 }
 
 // Does any list of acts on new lines of both kinds; what the outbox refuses is not told to the board. On either the
-// standing of a leg is what the notices told to it alone give, so both have equal standings.
+// standing of a leg is what the notices told to it alone give, so both have equal standings; and what was told since the last
+// collection waits on the outbox, and nothing else.
 pub fn on_new_lines(acts: &[Act]) -> BothLines
     ensures { NewLines acts.now result }
 {

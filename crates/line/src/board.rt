@@ -2,7 +2,7 @@
 ghost use Rattle.std.specs.Prelude.{◌≡◌, ℕ, replicate};
 ghost use Rattle.line.specs.Meaning.{Hears};
 ghost use Rattle.line.specs.Notices.{fresh};
-ghost use Rattle.line.specs.Boards.{board_standing};
+ghost use Rattle.line.specs.Boards.{BoardCollects, board_standing, BoardTells};
 
 use crate::leg::LegNumber;
 use crate::meaning::{Line, Refusal};
@@ -45,6 +45,10 @@ impl Line for Board {
     ghost standing = { board_standing };
 
     ghost room = { λ _. 128 };
+
+    ghost tells = { BoardTells };
+
+    ghost collects = { BoardCollects };
 
     fn tell(&mut self, leg: u8, notice: Notice) -> Result<(), Refusal> {
         self.hear(LegNumber::try_from(leg)?, notice);

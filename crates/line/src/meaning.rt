@@ -1,5 +1,6 @@
 // What a line to the remote users means, whatever it is made of.
-ghost use Rattle.std.specs.Prelude.{◌≡◌, ℕ, Some};
+ghost use Rattle.std.specs.Prelude.{◌≡◌, ℕ, Some, MatchResult};
+ghost use Rattle.line.specs.declared.notice.Notice.{Notice as SpecNotice};
 ghost use Rattle.line.specs.declared.standing.Standing.{Standing};
 ghost use Rattle.line.specs.Refusals.{refusal_number, refusal_text};
 ghost use Rattle.line.specs.Meaning.{Tells, Answers, Collects};
@@ -41,7 +42,9 @@ impl fmt::Display for Refusal {
 
 impl Error for Refusal {}
 
-// A line to the remote users, each reached by a leg from 1 to 64.
+// A line to the remote users, each reached by a leg from 1 to 64. Besides the standings and the room, that every caller knows, a
+// kind of line says for itself what a telling does to it and what a collection does: whoever works on lines of any kind can only
+// promise these by doing just that.
 pub trait Line {
     // what the remote user of each leg has heard
     ghost standing: { Self → ℕ → Standing };
@@ -49,10 +52,17 @@ pub trait Line {
     // how many notices can surely be told before the next collection
     ghost room: { Self → ℕ };
 
+    // what a telling that is not refused does to the line
+    ghost tells: { Self → ℕ → SpecNotice → Self → Type 0 };
+
+    // what a collection does to it
+    ghost collects: { Self → Self → Type 0 };
+
     // Tells the remote user of a leg a notice. A leg out of range is refused first, then a line without room; either
     // refusal changes nothing.
     fn tell(&mut self, leg: u8, notice: Notice) -> Result<(), Refusal>
-        ensures { Tells leg notice (standing self.old) (standing self.new) (room self.old) (room self.new) result };
+        ensures told { Tells leg notice (standing self.old) (standing self.new) (room self.old) (room self.new) result }
+        ensures tells { MatchResult result (λ _. tells self.old leg notice self.new) (λ _. self.new ≡ self.old) };
 
     fn room(&self) -> usize
         ensures { result ≡ room self.now };
@@ -63,5 +73,6 @@ pub trait Line {
 
     // Hands over what waits, if anything does. Every standing stays.
     fn collect(&mut self)
-        ensures { Collects (standing self.old) (standing self.new) (room self.new) };
+        ensures kept { Collects (standing self.old) (standing self.new) (room self.new) }
+        ensures collects { collects self.old self.new };
 }

@@ -1,6 +1,7 @@
 // One notice for a list of legs, on any line.
-ghost use Rattle.std.specs.Prelude.{◌↔◌, All, IsTrue};
+ghost use Rattle.std.specs.Prelude.{◌≡◌, ◌↔◌, All, IsTrue, MatchResult};
 ghost use Rattle.line.specs.Meaning.{Leg};
+ghost use Rattle.line.specs.Order.{TellsInOrder, to_each};
 ghost use Rattle.line.specs.Telling.{TellsEach, OnceEach};
 
 use crate::leg::is_leg;
@@ -18,6 +19,7 @@ fn are_legs(numbers: &[u8]) -> bool
 // the list's length; so either all are told, or nothing changes.
 pub fn tell_each<L: Line>(line: &mut L, legs: &[u8], notice: Notice) -> Result<(), Refusal>
     ensures each { TellsEach legs.now notice (L.standing line.old) (L.standing line.new) (L.room line.old) (L.room line.new) result }
+    ensures order { MatchResult result (λ _. TellsInOrder L.tells (to_each notice legs.now) line.old line.new) (λ _. line.new ≡ line.old) }
     ensures once { OnceEach legs.now notice (L.standing line.old) (L.standing line.new) result }
 {
     if !are_legs(legs) {

@@ -1,5 +1,7 @@
 -- What each step answers and does. Assumes nothing.
 use Rattle.std.specs.Prelude.{ℕ, ◌+◌, ◌≤◌, cond, List, length, None, Ok, Err, Option, Result}
+use Rattle.line.specs.declared.notice.Notice.{Notice}
+use Rattle.line.specs.Order.{TellsInOrder}
 use Rattle.tables.specs.declared.level.Level.{Level}
 use Rattle.tables.specs.declared.refusal.Refusal.{Refusal}
 use Rattle.tables.specs.declared.refusal.Refusal.TheVariants.{OutOfRange}
@@ -51,6 +53,11 @@ turn level room step.Collected t = record { answer = done 0 None; effect = nothi
 abbrev pub RoomAfter : Step → Effect → ℕ → ℕ → Type 0
 RoomAfter step.Collected e room room' = 64 ≤ room'
 RoomAfter _ e room room' = (room' ≤ room) × (room ≤ room' + length e.told)
+
+-- what a step does to a line of any kind: it tells what its turn tells, in order, and nothing else; or it collects
+abbrev pub DoesOnLine : {L : Type 0} → (L → ℕ → Notice → L → Type 0) → (L → L → Type 0) → Step → Effect → L → L → Type 0
+DoesOnLine tells collects step.Collected e l l' = collects l l'
+DoesOnLine tells collects _ e l l' = TellsInOrder tells e.told l l'
 
 -- the tables of a new controller: calls absent, legs down, no conference
 abbrev pub new_table : Table

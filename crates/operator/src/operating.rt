@@ -3,6 +3,8 @@ ghost use Rattle.operator.specs.Answers.{in_octets};
 ghost use Rattle.operator.specs.Company.{Company};
 ghost use Rattle.operator.specs.Roster.{empty};
 ghost use Rattle.operator.specs.Run.{GoesOn, Ran, Run, Taken};
+ghost use Rattle.operator.specs.Turns.{DoesOnLine, turn};
+ghost use Rattle.line.specs.Order.{TellsInOrder};
 ghost use Rattle.std.specs.Prelude.{◌≡◌, []};
 ghost use Rattle.line.specs.Meaning.{Same};
 
@@ -20,6 +22,7 @@ pub fn start<L: Line>(level: Level, line: &mut L) -> Controller
     ensures kept { Same (L.standing line.old) (L.standing line.new) }
     ensures run { Run level [] result.tables (L.standing line.new) (L.room line.new) }
     ensures law { Company empty result.tables (L.standing line.new) }
+    ensures collects { L.collects line.old line.new }
 {
     line.collect();
     Controller::new(level)
@@ -28,6 +31,7 @@ pub fn start<L: Line>(level: Level, line: &mut L) -> Controller
 // The exchange reports.
 fn reported<L: Line>(controller: &mut Controller, line: &mut L, report: Report) -> Answer
     ensures taken { Taken controller.old.level (Step.Reported report) (in_octets result) controller.old.tables controller.new.tables (L.standing line.old) (L.standing line.new) (L.room line.old) (L.room line.new) }
+    ensures order { TellsInOrder L.tells (turn controller.old.level (L.room line.old) (Step.Reported report) controller.old.tables).effect.told line.old line.new }
     ensures level { controller.new.level ≡ controller.old.level }
 {
     match controller.report(line, report) {
@@ -44,6 +48,7 @@ fn settled<L: Line>(
     asked: RequestInvoke,
 ) -> Answer
     ensures taken { Taken controller.old.level (Step.Settled carrier asked) (in_octets result) controller.old.tables controller.new.tables (L.standing line.old) (L.standing line.new) (L.room line.old) (L.room line.new) }
+    ensures order { TellsInOrder L.tells (turn controller.old.level (L.room line.old) (Step.Settled carrier asked) controller.old.tables).effect.told line.old line.new }
     ensures level { controller.new.level ≡ controller.old.level }
 {
     match PendingReply::new(carrier, asked) {
@@ -59,6 +64,7 @@ fn settled<L: Line>(
 fn take<L: Line>(controller: &mut Controller, line: &mut L, step: Step) -> Answer
     ensures taken { Taken controller.old.level step (in_octets result) controller.old.tables controller.new.tables (L.standing line.old) (L.standing line.new) (L.room line.old) (L.room line.new) }
     ensures level { controller.new.level ≡ controller.old.level }
+    ensures order { DoesOnLine L.tells L.collects step (turn controller.old.level (L.room line.old) step controller.old.tables).effect line.old line.new }
 {
     match step {
         Step::Reported(report) => reported(controller, line, report),
@@ -87,6 +93,7 @@ pub fn step<L: Line>(controller: &mut Controller, line: &mut L, step: Step) -> A
     ensures taken { Taken controller.old.level step (in_octets result) controller.old.tables controller.new.tables (L.standing line.old) (L.standing line.new) (L.room line.old) (L.room line.new) }
     ensures level { controller.new.level ≡ controller.old.level }
     ensures law { GoesOn controller.old.level step (in_octets result) controller.old.tables controller.new.tables (L.standing line.old) (L.standing line.new) (L.room line.old) (L.room line.new) }
+    ensures order { DoesOnLine L.tells L.collects step (turn controller.old.level (L.room line.old) step controller.old.tables).effect line.old line.new }
 {
     take(controller, line, step)
 }

@@ -1,7 +1,8 @@
 // What the exchange reports to the controller.
 ghost use Rattle.std.specs.Prelude.{◌≡◌};
 ghost use Rattle.controller.specs.Outcomes.{Reports};
-ghost use Rattle.controller.specs.Reports.{reported};
+ghost use Rattle.controller.specs.Reports.{reported, told_in};
+ghost use Rattle.line.specs.Order.{TellsInOrder};
 ghost use Rattle.tables.specs.Table.{empty};
 
 use super::Controller;
@@ -42,6 +43,7 @@ impl Controller {
     #[tactic(auto, using(crate::proofs::Tellable::reported_tellable, crate::proofs::Reported::accepted_apart))]
     pub fn report<L: Line>(&mut self, line: &mut L, report: Report) -> Result<Acceptance, Refusal>
         ensures answered { Reports (reported (L.room line.old) report self.old.tables) result self.old.tables self.new.tables (L.standing line.old) (L.standing line.new) (L.room line.old) (L.room line.new) }
+        ensures order { TellsInOrder L.tells (told_in (reported (L.room line.old) report self.old.tables)) line.old line.new }
         ensures level { self.new.level ≡ self.old.level }
     {
         let change = Change::by_report(line.room(), report, &self.tables)?;

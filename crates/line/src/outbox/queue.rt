@@ -1,8 +1,7 @@
 // The messages that wait, in the order in which they were told.
 ghost use Rattle.std.specs.Prelude.{◌≡◌, ℕ, [], length};
 ghost use Rattle.line.specs.Notices.{fresh};
-ghost use Rattle.line.specs.Meaning.{Tells, Collects};
-ghost use Rattle.line.specs.Outboxes.{notify, waiting, outbox_standing, outbox_room, Queues, HandsOut};
+ghost use Rattle.line.specs.Outboxes.{notify, waiting, OutboxCollects, outbox_room, outbox_standing, OutboxTells, HandsOut};
 
 use super::Outbox;
 use crate::board::Board;
@@ -65,10 +64,11 @@ impl Line for Outbox {
 
     ghost room = { outbox_room };
 
-    fn tell(&mut self, leg: u8, notice: Notice) -> Result<(), Refusal>
-        ensures told { Tells leg notice (outbox_standing self.old) (outbox_standing self.new) (outbox_room self.old) (outbox_room self.new) result }
-        ensures queued { Queues leg notice self.old self.new result }
-    {
+    ghost tells = { OutboxTells };
+
+    ghost collects = { OutboxCollects };
+
+    fn tell(&mut self, leg: u8, notice: Notice) -> Result<(), Refusal> {
         let leg = LegNumber::try_from(leg)?;
         if self.messages.is_full() {
             return Err(Refusal::NoRoom);
@@ -86,10 +86,7 @@ impl Line for Outbox {
         self.board.standing(leg)
     }
 
-    fn collect(&mut self)
-        ensures kept { Collects (outbox_standing self.old) (outbox_standing self.new) (outbox_room self.new) }
-        ensures empty { waiting self.new ≡ [] }
-    {
+    fn collect(&mut self) {
         self.messages.clear();
     }
 }

@@ -6,6 +6,9 @@ pub returns : goal.returns
 returns c = record {
   taken = [];
   ts = [];
+  ws = [];
   outbox = new _ _ c.new.ensures.standings (omega (arith, ap length c.new.ensures.empty));
+  waits = c.new.ensures.empty;
+  since_then = [];
   board = new _ 128 c.new-2.ensures (lit≤ tt);
 }
