@@ -1,20 +1,25 @@
 -- The company law follows from what holds.
-use Rattle.std.proofs.Common.{◌≡◌, ℕ, ◌+◌, ◌≤◌, ◌<◌, ◌≢◌, zero, suc, Bool, true, false, eqb, List, [], ◌∷◌, ◌++◌, length, map, get_or, Option, refl, ap, ◌∙◌, sym, inl, inr, arith}
-use Rattle.std.specs.List.{filter, range_with_len}
-use Rattle.std.proofs.lemmas.Bool.{cases_eq, cases_lt, ne_eqb, eq-eqb, true≢false}
+use Rattle.std.proofs.Common.{◌≡◌, ℕ, ◌+◌, ◌≤◌, ◌<◌, ◌≢◌, zero, suc, Bool, true, false, eqb, List, [], ◌∷◌, ◌++◌, length, map, get_or, Some, None, Option, is_some, refl, ap, ◌∙◌, subst, sym, inl, inr, arith}
+use Rattle.std.specs.List.{filter, find, range_with_len}
+use Rattle.std.specs.Option.{option_to_list}
+use Rattle.std.proofs.lemmas.Bool.{cases_Bool, cases_eq, cases_lt, ne_eqb, eq-eqb, eqb-true, true≢false}
 use Rattle.std.proofs.lemmas.Int.{ints}
-use Rattle.std.proofs.lemmas.List.{get_or_past}
+use Rattle.std.proofs.lemmas.List.{get_or_past, length-map}
 use Rattle.std.proofs.lemmas.List.Elements.{filter_agree}
+use Rattle.std.proofs.lemmas.List.Sums.{length-filter}
 use Rattle.line.specs.Meaning.{Standings}
 use Rattle.tables.specs.declared.call.Call.{Call}
+use Rattle.tables.specs.declared.conference.Conference.{Conference}
+use Rattle.tables.specs.declared.conference.Party.{Party}
 use Rattle.tables.specs.Calls.{absent}
 use Rattle.tables.specs.Table.{Table, call_at}
 use Rattle.controller.specs.Steps.{leads_to_leg}
 use Rattle.operator.specs.Company.{Company, call, conference, place, places, ToldRight}
-use Rattle.operator.specs.Roster.{Entry, down, on, party, is_on, Roster}
-use Rattle.operator.proofs.Holding.{Kept, Calls, Parties, RightAt, as_parties}
-use Rattle.operator.proofs.Lists.{in_at}
-use Rattle.operator.proofs.Looking.{parties_counted}
+use Rattle.operator.specs.Roster.{Entry, down, on, party, is_in, is_on, Roster}
+use Rattle.operator.proofs.Conferring.{linked_there, there_linked}
+use Rattle.operator.proofs.Holding.{Kept, Calls, Housed, Linked, Once, Parties, RightAt, as_parties}
+use Rattle.operator.proofs.Lists.{In, in_at, in_filtered, none_found}
+use Rattle.operator.proofs.Looking.{known, parties_counted}
 
 -- the sum is the others now less those when it joined
 told_right : (k : ℕ) (e : Entry) (legs : ℕ → Entry) (s : Standings) → RightAt k e legs s → ToldRight k e legs s
@@ -75,6 +80,44 @@ places_right k legs links t calls parties =
     ∙ ap (λ ps. map (λ r. call r) (references (legs k)) ++ map (λ p. conference p.conference p.id) ps) (parties k)
     ∙ places_joined k (legs k)
 
+-- what passes one test passes another
+filter_within : {X : Type 0} (p q : X → Bool) (xs : List X) → ((x : X) → In x xs → p x ≡ true → q x ≡ true) → length (filter p xs) ≤ length (filter q xs)
+filter_within p q [] within = omega arith
+filter_within p q (x ∷ xs) within =
+    let rest = filter_within p q xs (λ y is. within y (inr is)) in
+    elim (cases_Bool (p x)) [
+      | inl passes ↦ rw (passes, within x (inl refl) passes) (omega arith)
+      | inr not ↦ elim (cases_Bool (q x)) [ inl e ↦ rw (not, e) (omega arith) | inr e ↦ rw (not, e) rest ]
+    ]
+
+-- a party's conference is linked, so it is there
+home : (legs : ℕ → Entry) (links : ℕ → Option ℕ) (cs : List Conference) (ps : List Party) (p : Party) → Parties legs ps → Linked links cs → Housed legs links → In p ps → is_some (find (λ c. eqb c.id p.conference) cs) ≡ true
+home legs links cs ps p parties linked housed is =
+    let k = known legs ps p parties is in
+    let house = housed p.leg p.conference (ap (is_in p.conference) k.entry ∙ eq-eqb p.conference p.conference refl) in
+    let c = linked_there links cs house.0 p.conference linked house.1 in
+    go c.0 (find (λ d. eqb d.id p.conference) cs) refl c.1 c.3
+  where
+    go : (c : Conference) (o : Option Conference) → find (λ d. eqb d.id p.conference) cs ≡ o → In c cs → c.id ≡ p.conference → is_some o ≡ true
+    go c (Some d) e there same = refl
+    go c None e there same = absurd (true≢false (sym (eq-eqb c.id p.conference same) ∙ none_found (λ d. eqb d.id p.conference) c cs e there))
+
+-- two conferences with one id would be linked by one reference, which links one
+id_once : (links : ℕ → Option ℕ) (cs : List Conference) (id : ℕ) → Linked links cs → Once links → length (filter (λ c. eqb c.id id) cs) ≤ 1
+id_once links cs id linked once = go (filter (λ c. eqb c.id id) cs) refl
+  where
+    linked_so : (c : Conference) → In c cs → eqb c.id id ≡ true → links c.link ≡ Some id
+    linked_so c is same = there_linked links cs c linked is ∙ ap (λ i. Some i) (eqb-true c.id id same)
+
+    go : (l : List Conference) → filter (λ c. eqb c.id id) cs ≡ l → length (filter (λ c. eqb c.id id) cs) ≤ 1
+    go [] e = rw e (omega arith)
+    go (x ∷ l) e =
+        let there = in_filtered (λ c. eqb c.id id) x cs (subst (λ m. In x m) (sym e) (inl refl)) in
+        let at = linked_so x there.0 there.1 in
+        let more = filter_within (λ c. eqb c.id id) (λ c. eqb c.link x.link) cs (λ c is same. eq-eqb c.link x.link (once c.link x.link id (linked_so c is same) at)) in
+        let one : length (filter (λ c. eqb c.link x.link) cs) ≡ 1 = sym (length-map (filter (λ c. eqb c.link x.link) cs) (λ c. c.id)) ∙ ap length (linked x.link) ∙ ap (λ o. length (option_to_list o)) at in
+        omega arith
+
 -- so the law holds
 pub company : (r : Roster) (t : Table) (s : Standings) → Kept r t s → Company r t s
 company r t s kept = record {
@@ -87,4 +130,6 @@ company r t s kept = record {
       let sized = kept.holds.sized c (in_at t.conferences i d lt) in
       let count = parties_counted r.legs t.parties c.id kept.holds.ranged kept.holds.parties_fit in
       rw count sized.members;
+  homes = λ i d lt. home r.legs r.links t.conferences t.parties (get_or t.parties i d) kept.holds.parties_fit kept.holds.linked kept.holds.housed (in_at t.parties i d lt);
+  ids = λ id. rw (← length-filter (λ c. eqb c.id id) t.conferences) (id_once r.links t.conferences id kept.holds.linked kept.holds.once);
 }

@@ -1,11 +1,12 @@
 -- The company law holds along every history.
-use Rattle.std.proofs.Common.{◌≡◌, ℕ, ◌≤◌, Bool, true, false, cond, List, [], ◌∷◌, ◌++◌, ap, subst, get_or, replicate, refl, sym, inl, inr, arith}
+use Rattle.std.proofs.Common.{◌≡◌, ℕ, ◌+◌, ◌<◌, ◌≤◌, Bool, true, false, cond, List, [], ◌∷◌, ◌++◌, ap, map, subst, get_or, length, take, replicate, refl, ◌∙◌, sym, inl, inr, arith}
 use Rattle.std.proofs.lemmas.Bool.{cases_lt, true≢false}
 use Rattle.std.proofs.lemmas.List.{get_or-replicate, get_or_past}
 use Rattle.std.proofs.lemmas.List.Sums.{fold_push}
-use Rattle.std.proofs.lemmas.List.{map-append}
+use Rattle.std.proofs.lemmas.List.{map-append, take_more}
 use Rattle.facility.specs.declared.request.RequestInvoke.{RequestInvoke}
-use Rattle.line.specs.Meaning.{Standings}
+use Rattle.line.specs.declared.notice.Notice.{Notice}
+use Rattle.line.specs.Meaning.{Same, Standings}
 use Rattle.tables.specs.declared.level.Level.{Level}
 use Rattle.tables.specs.Calls.{absent}
 use Rattle.tables.specs.Table.{Table}
@@ -15,13 +16,16 @@ use Rattle.controller.specs.Judging.{reference_of}
 use Rattle.controller.specs.Replies.{settled, turned_away}
 use Rattle.controller.specs.Steps.{is_reference}
 use Rattle.controller.specs.Telling.{Heard}
+use Rattle.operator.specs.declared.answer.Answer.{Answer as Given}
 use Rattle.operator.specs.declared.steps.Step.{Step}
 use Rattle.operator.specs.declared.steps.Step.TheVariants as step
+use Rattle.operator.specs.Answers.{in_octets}
 use Rattle.operator.specs.Company.{Company}
 use Rattle.operator.specs.Roster.{down, is_up, Roster, empty, written}
-use Rattle.operator.specs.Run.{Run, start, next, Turned, roster_after, Throughout, GoesOn, Ran, Taken}
+use Rattle.operator.specs.OnLine.{collected, then, TakesAll}
+use Rattle.operator.specs.Run.{Run, start, next, Turned, roster_after, GoesOn, Taken}
 use Rattle.tables.specs.declared.refusal.Refusal.TheVariants.{OutOfRange}
-use Rattle.operator.specs.Turns.{Answer, RoomAfter, replied, Turn, turn, new_table, reply_turn, refusal}
+use Rattle.operator.specs.Turns.{Answer, DoesOnLine, RoomAfter, replied, Turn, turn, new_table, reply_turn, refusal}
 use Rattle.operator.proofs.Counts.{count_none}
 use Rattle.operator.proofs.Holding.{Kept}
 use Rattle.operator.proofs.Keeping.{kept_same, counted_none}
@@ -91,11 +95,6 @@ run_kept {level} (next h t s s' room room' st run heard after) =
 pub company_holds : {level : Level} {h : List Turned} {t : Table} {s : Standings} {room : ℕ} → Run level h t s room → Company (roster_after h) t s
 company_holds run = company _ _ _ (run_kept run)
 
--- so it held at its start and after each of its turns
-pub throughout : {level : Level} {h : List Turned} {t : Table} {s : Standings} {room : ℕ} (run : Run level h t s room) → Throughout run
-throughout (start s room roomy) = company _ _ _ (kept_new s)
-throughout {level} (next h t s s' room room' st run heard after) = (throughout run, company_holds (next h t s s' room room' st run heard after))
-
 -- a step carries on whatever history led to where it began
 pub goes_on : {level : Level} {st : Step} {t : Table} {s s' : Standings} {room room' : ℕ} → Heard (turn level room st t).effect.told s s' → RoomAfter st (turn level room st t).effect room room'
     → GoesOn level st (turn level room st t).answer t (turn level room st t).effect.table s s' room room'
@@ -116,14 +115,52 @@ company_new {t} {s} new = rw new (company _ _ _ (kept_new s))
 pub taken_goes_on : {level : Level} {st : Step} {answer : Answer} {t t' : Table} {s s' : Standings} {room room' : ℕ} → Taken level st answer t t' s s' room room' → GoesOn level st answer t t' s s' room room'
 taken_goes_on {level} {st} {answer} {t} {t'} {s} {s'} {room} {room'} taken = rw (taken.answered, taken.table) (goes_on taken.heard taken.roomy)
 
--- nothing taken, on a new controller and a collected line
-pub ran_none : {level : Level} {t : Table} {s : Standings} {room : ℕ} → Run level [] t s room → Ran level [] t s room
-ran_none run = record { history = []; taken = refl; run = run; law = throughout run }
+-- an answer put behind others
+pub put_behind : (before : List Given) (answer : Given) → map in_octets (before ++ (answer ∷ [])) ≡ map in_octets before ++ (in_octets answer ∷ [])
+put_behind before answer = map-append in_octets before (answer ∷ [])
 
--- and one step more
-pub ran_more : {level level' : Level} {steps : List Step} {st : Step} {answer : Answer} {t t' : Table} {s s' : Standings} {room room' : ℕ} → level' ≡ level
-    → Ran level steps t s room → GoesOn level' st answer t t' s s' room room' → Ran level (steps ++ (st ∷ [])) t' s' room'
-ran_more {level} {level'} {steps} {st} {answer} {t} {t'} {s} {s'} {room} {room'} same ran on =
-    let on' : GoesOn level st answer t t' s s' room room' = rw (← same) on in
-    let run = on'.run ran.history ran.run in
-    record { history = ran.history ++ ((st, answer) ∷ []); taken = simp map-append (ap (λ xs. xs ++ (st ∷ [])) ran.taken); run = run; law = throughout run }
+-- where a call that takes steps has come: it keeps a history of them, by which the law holds
+pub record Reached {L : Type 0} (standing : L → Standings) (room : L → ℕ) (tells : L → ℕ → Notice → L → Type 0) (collects : L → L → Type 0) (level : Level) (steps : List Step) (answers : List Answer) (entry : L) (t : Table) (l : L) : Type 0 where
+  pub all : TakesAll standing room tells collects level steps answers entry t l
+  pub history : Run level all.history t (standing l) (room l)
+
+module _ {L : Type 0} {standing : L → Standings} {room : L → ℕ} {tells : L → ℕ → Notice → L → Type 0} {collects : L → L → Type 0} where
+  -- nothing taken, on a new controller and a collected line
+  pub reached_none : {level : Level} {entry : L} {t : Table} {l : L} → t ≡ new_table → collects entry l → Same (standing entry) (standing l) → Run level [] t (standing l) (room l)
+      → Reached standing room tells collects level [] [] entry t l
+  reached_none {level} {entry} {t} {l} new does kept run = subst (λ x. Reached standing room tells collects level [] [] entry x l) (sym new) (record {
+    all = record { history = []; taken = refl; answered = refl; run = collected l does kept; law = company_new refl };
+    history = subst (λ x. Run level [] x (standing l) (room l)) new run;
+  })
+
+  -- and one step more
+  pub reached_more : {level level' : Level} {steps : List Step} {answers : List Answer} {st : Step} {answer : Answer} {entry : L} {t t' : Table} {l l' : L} → level' ≡ level
+      → Reached standing room tells collects level steps answers entry t l → Taken level' st answer t t' (standing l) (standing l') (room l) (room l') → DoesOnLine tells collects st (turn level' (room l) st t).effect l l'
+      → Reached standing room tells collects level (steps ++ (st ∷ [])) (answers ++ (answer ∷ [])) entry t' l'
+  reached_more {level} {level'} {steps} {answers} {st} {answer} {entry} {t} {t'} {l} {l'} same reached taken does =
+      subst (λ x. Reached standing room tells collects level (steps ++ (st ∷ [])) (answers ++ (x ∷ [])) entry t' l') (sym answered) here
+    where
+      answered : answer ≡ (turn level (room l) st t).answer
+      answered = taken.answered ∙ ap (λ v. (turn v (room l) st t).answer) same
+
+      on : GoesOn level st (turn level (room l) st t).answer t (turn level (room l) st t).effect.table (standing l) (standing l') (room l) (room l')
+      on = goes_on (subst (λ v. Heard (turn v (room l) st t).effect.told (standing l) (standing l')) same taken.heard) (subst (λ v. RoomAfter st (turn v (room l) st t).effect (room l) (room l')) same taken.roomy)
+
+      here : Reached standing room tells collects level (steps ++ (st ∷ [])) (answers ++ ((turn level (room l) st t).answer ∷ [])) entry t' l'
+      here = subst (λ x. Reached standing room tells collects level (steps ++ (st ∷ [])) (answers ++ ((turn level (room l) st t).answer ∷ [])) entry x l') (sym (taken.table ∙ ap (λ v. (turn v (room l) st t).effect.table) same)) (record {
+        all = record {
+          history = reached.all.history ++ ((st, (turn level (room l) st t).answer) ∷ []);
+          taken = simp map-append (ap (λ xs. xs ++ (st ∷ [])) reached.all.taken);
+          answered = simp map-append (ap (λ xs. xs ++ ((turn level (room l) st t).answer ∷ [])) reached.all.answered);
+          run = then reached.all.history t l l' st reached.all.run (subst (λ v. DoesOnLine tells collects st (turn v (room l) st t).effect l l') same does);
+          law = (reached.all.law, on.law reached.all.history reached.history);
+        };
+        history = on.run reached.all.history reached.history;
+      })
+
+  -- one step more of a list
+  pub reached_next : {level level' : Level} (steps : List Step) (i : ℕ) (d : Step) {answers : List Answer} {answer : Answer} {entry : L} {t t' : Table} {l l' : L} → i < length steps → level' ≡ level
+      → Reached standing room tells collects level (take i steps) answers entry t l → Taken level' (get_or steps i d) answer t t' (standing l) (standing l') (room l) (room l') → DoesOnLine tells collects (get_or steps i d) (turn level' (room l) (get_or steps i d) t).effect l l'
+      → Reached standing room tells collects level (take (i + 1) steps) (answers ++ (answer ∷ [])) entry t' l'
+  reached_next {level} {level'} steps i d {answers} {answer} {entry} {t} {t'} {l} {l'} within same reached taken does =
+      subst (λ xs. Reached standing room tells collects level xs (answers ++ (answer ∷ [])) entry t' l') (sym (take_more steps i d within)) (reached_more same reached taken does)

@@ -1,11 +1,11 @@
 -- The company law: what the notices told to the remote users come to. Assumes nothing.
-use Rattle.std.specs.Prelude.{◌≡◌, ℕ, pos, ◌+◌, ◌≤◌, ◌-ℤ◌, Bool, true, false, List, [], ◌∷◌, ◌++◌, length, filter, map, Some, Option, All, ◌==◌}
+use Rattle.std.specs.Prelude.{◌≡◌, ℕ, pos, ◌+◌, ◌≤◌, ◌-ℤ◌, Bool, true, false, List, [], ◌∷◌, ◌++◌, length, filter, map, Some, Option, All, IsSome, count_by, ◌==◌}
 use Rattle.std.specs.List.{range_with_len}
 use Rattle.line.specs.declared.standing.OwnNotice.{OwnNotice}
 use Rattle.line.specs.declared.standing.OwnNotice.TheVariants as own
 use Rattle.line.specs.Meaning.{Leg, Standings}
 use Rattle.tables.specs.declared.conference.Conference.{Conference}
-use Rattle.tables.specs.Table.{Table, call_at, parties_of}
+use Rattle.tables.specs.Table.{Table, call_at, conference_with, parties_of}
 use Rattle.controller.specs.Steps.{leads_to_leg}
 use Rattle.operator.specs.Roster.{Entry, down, on, party, Roster, is_up, ups, others_in}
 
@@ -58,3 +58,7 @@ pub record Company (r : Roster) (t : Table) (s : Standings) : Type 0 where
   pub number : ups r.legs + r.gone ≡ r.answered
   -- no conference exceeds its size
   pub sizes : All (Within t) t.conferences
+  -- each party's conference is in the table
+  pub homes : All (λ p. IsSome (conference_with t p.conference)) t.parties
+  -- and each ConferenceId stands there once
+  pub ids : (id : ℕ) → count_by (λ c. c.id == id) t.conferences ≤ 1

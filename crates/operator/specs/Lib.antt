@@ -2,4 +2,5 @@ pub mod Turns
 pub mod Roster
 pub mod Company
 pub mod Run
+pub mod OnLine
 pub mod Answers

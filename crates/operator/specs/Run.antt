@@ -1,5 +1,5 @@
 -- Histories: steps on a new controller and a collected line, in any order, each with its answer. Assumes nothing.
-use Rattle.std.specs.Prelude.{◌≡◌, ℕ, ◌≤◌, List, [], ◌∷◌, ◌++◌, fold, map}
+use Rattle.std.specs.Prelude.{◌≡◌, ℕ, ◌≤◌, List, [], ◌∷◌, ◌++◌, fold}
 use Rattle.line.specs.Meaning.{Standings}
 use Rattle.tables.specs.declared.level.Level.{Level}
 use Rattle.tables.specs.Table.{Table}
@@ -26,12 +26,6 @@ pub data Run (level : Level) : List Turned → Table → Standings → ℕ → T
       → Heard (turn level room step t).effect.told s s' → RoomAfter step (turn level room step t).effect room room'
       → Run level (h ++ ((step, (turn level room step t).answer) ∷ [])) (turn level room step t).effect.table s' room'
 
--- the company law at the start of a history and after each of its steps, of the tables and the line as they were then
-abbrev pub Throughout : {level : Level} {h : List Turned} {t : Table} {s : Standings} {room : ℕ} → Run level h t s room → Type 0
-Throughout (start s room roomy) = Company empty new_table s
-Throughout {level} (next h t s s' room room' step run heard roomy) =
-    Throughout run × Company (roster_after (h ++ ((step, (turn level room step t).answer) ∷ []))) (turn level room step t).effect.table s'
-
 -- a step and its answer carry on whatever history led to the tables and the line, and the company law holds then
 pub record GoesOn (level : Level) (step : Step) (answer : Answer) (t t' : Table) (s s' : Standings) (room room' : ℕ) : Type 0 where
   pub run : (h : List Turned) → Run level h t s room → Run level (h ++ ((step, answer) ∷ [])) t' s' room'
@@ -43,11 +37,3 @@ pub record Taken (level : Level) (step : Step) (answer : Answer) (t t' : Table) 
   pub table : t' ≡ (turn level room step t).effect.table
   pub heard : Heard (turn level room step t).effect.told s s'
   pub roomy : RoomAfter step (turn level room step t).effect room room'
-
--- a list of steps taken on a new controller and a collected line: each got an answer, and the company law held at the start and
--- after each of them
-pub record Ran (level : Level) (steps : List Step) (t : Table) (s : Standings) (room : ℕ) : Type 0 where
-  pub history : List Turned
-  pub taken : map (λ turned. turned.0) history ≡ steps
-  pub run : Run level history t s room
-  pub law : Throughout run

@@ -5,8 +5,10 @@
 
 mod answer;
 mod operating;
+mod runs;
 mod steps;
 
 pub use answer::Answer;
-pub use operating::{run, start, step};
+pub use operating::step;
+pub use runs::{Finished, run, start};
 pub use steps::Step;

@@ -1,32 +1,16 @@
-// The start of a run, and a step of it.
+// A step of a run.
 ghost use Rattle.operator.specs.Answers.{in_octets};
-ghost use Rattle.operator.specs.Company.{Company};
-ghost use Rattle.operator.specs.Roster.{empty};
-ghost use Rattle.operator.specs.Run.{GoesOn, Ran, Run, Taken};
+ghost use Rattle.operator.specs.Run.{GoesOn, Taken};
 ghost use Rattle.operator.specs.Turns.{DoesOnLine, turn};
 ghost use Rattle.line.specs.Order.{TellsInOrder};
-ghost use Rattle.std.specs.Prelude.{◌≡◌, []};
-ghost use Rattle.line.specs.Meaning.{Same};
+ghost use Rattle.std.specs.Prelude.{◌≡◌};
 
 use crate::answer::Answer;
 use crate::steps::Step;
 use controller::{Acceptance, Carrier, Controller, PendingReply, Reply, Report};
 use facility::RequestInvoke;
 use line::Line;
-use tables::{Level, Refusal};
-
-// Makes the controller at a level and collects the line: the start of a run, and the company law holds there.
-#[tactic(auto, using(crate::proofs::Running::starts))]
-pub fn start<L: Line>(level: Level, line: &mut L) -> Controller
-    ensures level { result.level ≡ level }
-    ensures kept { Same (L.standing line.old) (L.standing line.new) }
-    ensures run { Run level [] result.tables (L.standing line.new) (L.room line.new) }
-    ensures law { Company empty result.tables (L.standing line.new) }
-    ensures collects { L.collects line.old line.new }
-{
-    line.collect();
-    Controller::new(level)
-}
+use tables::Refusal;
 
 // The exchange reports.
 fn reported<L: Line>(controller: &mut Controller, line: &mut L, report: Report) -> Answer
@@ -96,15 +80,4 @@ pub fn step<L: Line>(controller: &mut Controller, line: &mut L, step: Step) -> A
     ensures order { DoesOnLine L.tells L.collects step (turn controller.old.level (L.room line.old) step controller.old.tables).effect line.old line.new }
 {
     take(controller, line, step)
-}
-
-// Takes all steps of a list on a new controller and a collected line. Each gets an answer, and the company law holds after each.
-pub fn run<L: Line>(level: Level, line: &mut L, steps: &[Step]) -> Controller
-    ensures { Ran level steps.now result.tables (L.standing line.new) (L.room line.new) }
-{
-    let mut controller = start(level, line);
-    for taken in steps {
-        let _ = step(&mut controller, line, *taken);
-    }
-    controller
 }

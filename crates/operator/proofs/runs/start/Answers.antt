@@ -1,5 +1,5 @@
 use Rattle.operator.proofs.Running.{company_new}
-use Rattle.operator.proofs.operating.start.Goals as goal
+use Rattle.operator.proofs.runs.start.Goals as goal
 
 -- the company law holds of new tables, whatever was heard
 pub returns-clause-law : goal.returns-clause-law
