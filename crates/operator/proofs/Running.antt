@@ -11,7 +11,6 @@ use Rattle.tables.specs.declared.level.Level.{Level}
 use Rattle.tables.specs.Calls.{absent}
 use Rattle.tables.specs.Table.{Table}
 use Rattle.controller.specs.declared.carrier.Carrier.{Carrier}
-use Rattle.controller.specs.Granting.{nothing}
 use Rattle.controller.specs.Judging.{reference_of}
 use Rattle.controller.specs.Replies.{settled, turned_away}
 use Rattle.controller.specs.Steps.{is_reference}
@@ -25,7 +24,7 @@ use Rattle.operator.specs.Roster.{down, is_up, Roster, empty, written}
 use Rattle.operator.specs.OnLine.{collected, then, TakesAll}
 use Rattle.operator.specs.Run.{Run, start, next, Turned, roster_after, GoesOn, Taken}
 use Rattle.tables.specs.declared.refusal.Refusal.TheVariants.{OutOfRange}
-use Rattle.operator.specs.Turns.{Answer, DoesOnLine, RoomAfter, replied, Turn, turn, new_table, reply_turn, refusal}
+use Rattle.operator.specs.Turns.{Answer, DoesOnLine, RoomAfter, refused, replied, turn, new_table, reply_turn, refusal}
 use Rattle.operator.proofs.Counts.{count_none}
 use Rattle.operator.proofs.Holding.{Kept}
 use Rattle.operator.proofs.Keeping.{kept_same, counted_none}
@@ -69,7 +68,7 @@ settled_turn r t s s' level room carrier asked false is kept = λ heard. counted
 
 -- a request turned away
 away_turn : (r : Roster) (t : Table) (s s' : Standings) (carrier : Carrier) (asked : RequestInvoke) (b : Bool) → Kept r t s
-    → (let x : Turn = cond b (record { answer = replied (turned_away asked) 0; effect = nothing t }) (refusal OutOfRange t) in Heard x.effect.told s s' → Kept (written (step.TurnedAway carrier asked) x.answer r) x.effect.table s')
+    → Heard [] s s' → Kept (written (step.TurnedAway carrier asked) (cond b (replied (turned_away asked) 0) (refused OutOfRange)) r) t s'
 away_turn r t s s' carrier asked true kept = λ heard. counted_none (kept_same s' heard kept)
 away_turn r t s s' carrier asked false kept = λ heard. counted_none (kept_same s' heard kept)
 

@@ -6,6 +6,8 @@ use Rattle.tables.specs.declared.level.Level.{Level}
 use Rattle.tables.specs.declared.refusal.Refusal.{Refusal}
 use Rattle.tables.specs.declared.refusal.Refusal.TheVariants.{OutOfRange}
 use Rattle.tables.specs.Table.{Table, empty}
+use Rattle.facility.specs.declared.request.RequestInvoke.{RequestInvoke}
+use Rattle.controller.specs.declared.carrier.Carrier.{Carrier}
 use Rattle.controller.specs.Granting.{nothing}
 use Rattle.controller.specs.Judging.{reference_of}
 use Rattle.controller.specs.Replies.{Settled, settled, turned_away}
@@ -40,13 +42,17 @@ report_turn (Err why) t = refusal why t
 abbrev pub reply_turn : Settled → Turn
 reply_turn s = record { answer = replied s.body s.effect.gone; effect = s.effect }
 
+-- the answer to a request that is turned away
+abbrev pub away_answer : Carrier → RequestInvoke → Answer
+away_answer carrier asked = cond (is_reference (reference_of carrier)) (replied (turned_away asked) 0) (refused OutOfRange)
+
 -- the turn that a step is, on a line with some room: a request that came with a reference out of range is refused first
 abbrev pub turn : Level → ℕ → Step → Table → Turn
 turn level room (step.Reported report) t = report_turn (reported room report t) t
 turn level room (step.Settled carrier asked) t =
     cond (is_reference (reference_of carrier)) (reply_turn (settled level room carrier asked t)) (refusal OutOfRange t)
 turn level room (step.TurnedAway carrier asked) t =
-    cond (is_reference (reference_of carrier)) (record { answer = replied (turned_away asked) 0; effect = nothing t }) (refusal OutOfRange t)
+    record { answer = away_answer carrier asked; effect = nothing t }
 turn level room step.Collected t = record { answer = done 0 None; effect = nothing t }
 
 -- the room after a step: each notice takes one at most, and a collection leaves room for 64

@@ -1,7 +1,7 @@
 // A step of a run.
 ghost use Rattle.operator.specs.Answers.{in_octets};
 ghost use Rattle.operator.specs.Run.{GoesOn, Taken};
-ghost use Rattle.operator.specs.Turns.{DoesOnLine, turn};
+ghost use Rattle.operator.specs.Turns.{away_answer, DoesOnLine, turn};
 ghost use Rattle.line.specs.Order.{TellsInOrder};
 ghost use Rattle.std.specs.Prelude.{◌≡◌};
 
@@ -44,6 +44,19 @@ fn settled<L: Line>(
     }
 }
 
+// A request is turned away: neither tables nor line are looked at.
+fn turned_away(carrier: Carrier, asked: RequestInvoke) -> Answer
+    ensures { in_octets result ≡ away_answer carrier asked }
+{
+    match PendingReply::new(carrier, asked) {
+        Ok(pending) => Answer::Replied {
+            message: pending.turn_away(),
+            gone: 0,
+        },
+        Err(why) => Answer::Refused(why),
+    }
+}
+
 // Takes one step.
 fn take<L: Line>(controller: &mut Controller, line: &mut L, step: Step) -> Answer
     ensures taken { Taken controller.old.level step (in_octets result) controller.old.tables controller.new.tables (L.standing line.old) (L.standing line.new) (L.room line.old) (L.room line.new) }
@@ -53,13 +66,7 @@ fn take<L: Line>(controller: &mut Controller, line: &mut L, step: Step) -> Answe
     match step {
         Step::Reported(report) => reported(controller, line, report),
         Step::Settled { carrier, asked } => settled(controller, line, carrier, asked),
-        Step::TurnedAway { carrier, asked } => match PendingReply::new(carrier, asked) {
-            Ok(pending) => Answer::Replied {
-                message: pending.turn_away(),
-                gone: 0,
-            },
-            Err(why) => Answer::Refused(why),
-        },
+        Step::TurnedAway { carrier, asked } => turned_away(carrier, asked),
         Step::Collected => {
             line.collect();
             Answer::Done {

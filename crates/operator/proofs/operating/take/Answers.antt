@@ -1,10 +1,14 @@
-use Rattle.std.proofs.Common.{arith}
-use Rattle.std.proofs.lemmas.Grind.{common_steps}
-use Rattle.line.proofs.Orders.{order_nothing}
+use Rattle.std.proofs.Common.{refl, arith}
+use Rattle.line.specs.Order.{nothing}
 use Rattle.operator.proofs.operating.take.Goals as goal
 
-pub returns-in-Ok-clause-order : goal.returns-in-Ok-clause-order
-returns-in-Ok-clause-order g c = rw c.in-TurnedAway.is (order_nothing (grind (arith, common_steps)))
+pub returns-in-TurnedAway-clause-taken : goal.returns-in-TurnedAway-clause-taken
+returns-in-TurnedAway-clause-taken g c = rw c.in-TurnedAway.is record {
+  answered = c.turned_away.ensures;
+  table = refl;
+  heard = λ k. refl;
+  roomy = (omega arith, omega arith);
+}
 
-pub returns-in-Err-clause-order : goal.returns-in-Err-clause-order
-returns-in-Err-clause-order g c = rw c.in-TurnedAway.is (order_nothing (grind (arith, common_steps)))
+pub returns-in-TurnedAway-clause-order : goal.returns-in-TurnedAway-clause-order
+returns-in-TurnedAway-clause-order g c = rw c.in-TurnedAway.is (nothing _)
