@@ -1,5 +1,5 @@
 -- What the lines of a script are answered, and what they do to the exchange that goes on. Assumes nothing.
-use Rattle.std.specs.Prelude.{◌≡◌, ℕ, Bool, cond, List, [], ◌∷◌, ◌++◌, Some, None, string_bytes, codes, Option}
+use Rattle.std.specs.Prelude.{◌≡◌, ℕ, Bool, List, [], ◌∷◌, ◌++◌, Some, None, string_bytes, codes, Option}
 use Rattle.lines.specs.Cutting.{ended, going_on, input_lines, kept}
 use Rattle.line.specs.Outboxes.{waiting}
 use Rattle.tables.specs.LevelWords.{Offers}

@@ -7,7 +7,7 @@ use Rattle.facility.specs.Wording.{replied_text}
 use Rattle.facility.specs.declared.request.RequestInvoke.{RequestInvoke}
 use Rattle.line.specs.Meaning.{Same}
 use Rattle.line.specs.Notices.{fresh}
-use Rattle.line.specs.Outboxes.{outbox_room, outbox_standing}
+use Rattle.line.specs.Outboxes.{outbox_room, outbox_standing, waiting}
 use Rattle.tables.specs.declared.level.Level.{Level}
 use Rattle.tables.specs.declared.refusal.Refusal.TheVariants.{OutOfRange}
 use Rattle.listing.specs.Listing.{listing}
@@ -15,7 +15,8 @@ use Rattle.controller.specs.Judging.{reference_of}
 use Rattle.controller.specs.Steps.{is_reference}
 use Rattle.controller.specs.declared.carrier.Carrier.{Carrier}
 use Rattle.operator.specs.Run.{Run, Taken}
-use Rattle.operator.specs.Turns.{Answer, refused, turn}
+use Rattle.operator.specs.Turns.{Answer, refused, turn, new_table}
+use Rattle.operator.specs.Waits.{waits_after}
 use Rattle.operator.specs.declared.steps.Step.{Step}
 use Rattle.operator.specs.declared.steps.Step.TheVariants as step
 use Rattle.exchange.specs.Answers.{answer_text}
@@ -48,6 +49,8 @@ answer_in x step = (turn x.controller.level (outbox_room x.outbox) step x.contro
 -- a step is taken on the controller and the outbox, and counts
 pub record Stepped (step : Step) (x x' : Service) : Type 0 where
   pub taken : Taken x.controller.level step (answer_in x step) x.controller.tables x'.controller.tables (outbox_standing x.outbox) (outbox_standing x'.outbox) (outbox_room x.outbox) (outbox_room x'.outbox)
+  -- what waits on the outbox then: what was told since the last collection, or since the start
+  pub waits : waiting x'.outbox ≡ waits_after step (turn x.controller.level (outbox_room x.outbox) step x.controller.tables).effect (waiting x.outbox)
   pub level : x'.controller.level ≡ x.controller.level
   pub counted : Counted (refused_with (answer_in x step)) x x'
 
@@ -72,9 +75,11 @@ read_text x away by (Err fault) = replied_text fault
 abbrev pub request_text : Service → Bool → Carrier → List ℕ → List ℕ
 request_text x away by octets = cond (is_reference (reference_of by)) (read_text x away by (requesting octets)) (answer_text (refused OutOfRange))
 
--- a new exchange: a new controller, a line on which nobody has heard anything, and no steps
+-- a new exchange: a new controller, a line on which nobody has heard anything and nothing waits, and no steps
 pub record New (level : Level) (x : Service) : Type 0 where
   pub at : x.controller.level ≡ level
+  pub tables : x.controller.tables ≡ new_table
+  pub waits : waiting x.outbox ≡ []
   pub heard : Same (λ k. fresh) (outbox_standing x.outbox)
   pub run : Run level [] x.controller.tables (outbox_standing x.outbox) (outbox_room x.outbox)
   pub steps : x.steps ≡ 0

@@ -55,6 +55,7 @@ impl Service {
     }
 
     // Takes a step.
+    #[tactic(auto, using(operator::proofs::Waiting::waits_on))]
     pub fn take(&mut self, step: Step) -> Answer
         ensures answer { in_octets result ≡ answer_in self.old step }
         ensures taken { Stepped step self.old self.new }

@@ -11,12 +11,12 @@ use Rattle.line.specs.declared.meaning.Refusal.{Refusal}
 use Rattle.line.specs.declared.meaning.Refusal.TheVariants.{NoSuchLeg, NoRoom}
 use Rattle.line.specs.declared.notice.Notice.{Notice}
 use Rattle.line.specs.declared.outbox.Outbox.{Outbox}
-use Rattle.line.specs.Acts.{Alone, CarriedOut, DoesAct, told, since, messages, Run, new, next, GoesOn, Both, BothGoOn, NewLines}
+use Rattle.line.specs.Acts.{Alone, CarriedOut, DoesAct, told, since, Run, new, next, GoesOn, Both, BothGoOn, NewLines}
 use Rattle.line.specs.Boards.{board_standing}
 use Rattle.line.specs.Meaning.{Standings, Same, Hears}
 use Rattle.line.specs.Notices.{after}
 use Rattle.line.specs.Order.{Telling}
-use Rattle.line.specs.Outboxes.{notify, outbox_standing, outbox_room, OutboxCollects, OutboxTells, waiting}
+use Rattle.line.specs.Outboxes.{messages, notify, outbox_standing, outbox_room, OutboxCollects, OutboxTells, waiting}
 
 -- a telling that is done adds itself to the tellings that led to the standings
 alone_told : (leg : ℕ) (n : Notice) (s s' : Standings) (ts : List Telling) → Hears leg n s s' → Alone ts s → Alone (ts ++ ((leg, n) ∷ [])) s'

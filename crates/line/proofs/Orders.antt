@@ -2,6 +2,8 @@
 use Rattle.std.proofs.Common.{◌≡◌, ◌<◌, ℕ, ◌+◌, List, [], ◌∷◌, ◌++◌, length, take, get_or, sym, subst, ap, ◌∙◌}
 use Rattle.std.proofs.lemmas.List.{append-nil, append_assoc, map-append, take_more}
 use Rattle.line.specs.declared.notice.Notice.{Notice}
+use Rattle.line.specs.declared.outbox.Outbox.{Outbox}
+use Rattle.line.specs.Outboxes.{messages, notify, OutboxTells, waiting}
 use Rattle.line.specs.Order.{Telling, TellsInOrder, nothing, then, to_each}
 
 -- some tellings, and others behind them
@@ -22,3 +24,10 @@ order_one {leg = leg} {notice = notice} {l} {l'} told = then [] leg notice l l l
 pub order_more : {L : Type 0} {tells : L → ℕ → Notice → L → Type 0} {notice : Notice} (legs : List ℕ) (i : ℕ) {l l' l'' : L} → i < length legs → TellsInOrder tells (to_each notice (take i legs)) l l' → tells l' (get_or legs i 0) notice l'' → TellsInOrder tells (to_each notice (take (i + 1) legs)) l l''
 order_more {L} {tells} {notice} legs i {l} {l'} {l''} within before last =
     subst (λ xs. TellsInOrder tells xs l l'') (sym (ap (to_each notice) (take_more legs i 0 within) ∙ map-append (λ leg. (leg, notice)) _ _)) (then _ _ _ _ _ _ before last)
+
+-- what is told in order on an outbox waits there in order, behind what waited
+pub waits_behind : {told : List Telling} {o o' : Outbox} → TellsInOrder OutboxTells told o o' → waiting o' ≡ waiting o ++ messages told
+waits_behind (nothing o) = sym (append-nil (waiting o))
+waits_behind (then told leg notice o o' o'' before last) =
+    last ∙ ap (λ ms. ms ++ (notify leg notice ∷ [])) (waits_behind before) ∙ append_assoc (waiting o) (messages told) (notify leg notice ∷ [])
+    ∙ ap (λ ms. waiting o ++ ms) (sym (map-append (λ t. notify t.0 t.1) told ((leg, notice) ∷ [])))

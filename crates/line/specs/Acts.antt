@@ -10,7 +10,7 @@ use Rattle.line.specs.Boards.{board_standing}
 use Rattle.line.specs.Meaning.{Standings, Same, Tells, Collects}
 use Rattle.line.specs.Notices.{fresh, after}
 use Rattle.line.specs.Order.{Telling}
-use Rattle.line.specs.Outboxes.{notify, outbox_standing, outbox_room, waiting}
+use Rattle.line.specs.Outboxes.{messages, outbox_standing, outbox_room, waiting}
 
 -- the notices told to a leg, in their order
 abbrev pub notices_to : ℕ → List Telling → List Notice
@@ -62,10 +62,6 @@ pub data Run : List Act → List Telling → List Telling → Standings → ℕ 
 pub record GoesOn (act : Act) (r : Result Unit Refusal) (s s' : Standings) (room room' : ℕ) : Type 0 where
   pub run : (acts : List Act) (ts ws : List Telling) → Run acts ts ws s room → Run (acts ++ (act ∷ [])) (ts ++ told act r) (since act r ws) s' room'
   pub alone : (acts : List Act) (ts ws : List Telling) → Run acts ts ws s room → Alone (ts ++ told act r) s'
-
--- the messages of tellings, in their order
-abbrev pub messages : List Telling → List (List ℕ)
-messages ts = map (λ t. notify t.0 t.1) ts
 
 -- an outbox on which acts were done, and a board on which those were done that the outbox did not refuse: the same was told
 -- on both, and what was told since the last collection waits on the outbox, and nothing else

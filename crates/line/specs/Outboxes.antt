@@ -1,16 +1,21 @@
 -- An outbox: the messages that wait in it, its standings and its room. Assumes nothing.
-use Rattle.std.specs.Prelude.{◌≡◌, ℕ, ◌-◌, ◌<◌, ◌≤◌, List, [], ◌∷◌, ◌++◌, length, Some, None, Option, slice_index_or}
+use Rattle.std.specs.Prelude.{◌≡◌, ℕ, ◌-◌, ◌<◌, ◌≤◌, List, [], ◌∷◌, ◌++◌, length, map, Some, None, Option, slice_index_or}
 use Rattle.line.specs.declared.notice.Notice.{Notice}
 use Rattle.line.specs.declared.outbox.Outbox.{Outbox}
 use Rattle.line.specs.declared.outbox.queue.Waiting.{Waiting}
 use Rattle.line.specs.declared.standing.Standing.{Standing}
 use Rattle.line.specs.Boards.{board_standing}
 use Rattle.line.specs.Meaning.{Same}
+use Rattle.line.specs.Order.{Telling}
 use Rattle.line.specs.Notices.{code_of}
 
 -- the five octets of a message: the leg, NOTIFY, the Notification indicator with its length, the code
 abbrev pub notify : ℕ → Notice → List ℕ
 notify leg notice = leg ∷ 0x6e ∷ 0x27 ∷ 0x01 ∷ code_of notice ∷ []
+
+-- the messages of what is told, in its order
+abbrev pub messages : List Telling → List (List ℕ)
+messages told = map (λ telling. notify telling.0 telling.1) told
 
 -- the messages that wait, the oldest first
 abbrev pub waiting : Outbox → List (List ℕ)

@@ -16,3 +16,4 @@ pub mod Attending
 pub mod Reading
 pub mod Requesting
 pub mod Running
+pub mod Waiting

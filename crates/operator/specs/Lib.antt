@@ -3,4 +3,5 @@ pub mod Roster
 pub mod Company
 pub mod Run
 pub mod OnLine
+pub mod Waits
 pub mod Answers
