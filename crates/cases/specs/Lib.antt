@@ -2,4 +2,3 @@ pub mod Examples
 pub mod Copying
 pub mod Telling
 pub mod Conferring
-pub mod Reels

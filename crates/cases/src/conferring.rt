@@ -1,14 +1,4 @@
-// Conferences from call to answer: worked out by the rules, and done by an operator.
-ghost use Rattle.cases.specs.Conferring.{BegunBySetup, IdsGoOn, Levels, OneClears, SizeOfNone};
-
-// Worked out by the rules. It does nothing: its contract is the examples.
-pub fn worked_conferences()
-    ensures levels { Levels }
-    ensures begun_by_setup { BegunBySetup }
-    ensures size_of_none { SizeOfNone }
-    ensures one_clears { OneClears }
-    ensures ids_go_on { IdsGoOn }
-{}
+// Conferences from call to answer, done by an operator.
 
 #[cfg(test)]
 mod tests {
