@@ -1,8 +1,8 @@
 -- What is told on a line, one notice after another, is delivered.
-use Rattle.std.proofs.Common.{arith, length, ◌+◌, ◌≡◌, ℕ, Bool, true, false, cond, eqb, List, [], ◌∷◌, ◌++◌, map, Ok, Err, Result, IsOk, refl, sym, ◌∙◌, add_comm, add-one, zero-add}
+use Rattle.std.proofs.Common.{All, arith, length, ◌≤◌, ◌+◌, ◌≡◌, ℕ, Bool, true, false, cond, eqb, List, [], ◌∷◌, ◌++◌, map, Ok, Err, Result, IsOk, refl, subst, sym, ◌∙◌, add_comm, add-one, zero-add}
 use Rattle.std.specs.List.{filter}
 use Rattle.std.proofs.Math.Seq.{drop-append_seam}
-use Rattle.std.proofs.lemmas.List.{length-append, length-map}
+use Rattle.std.proofs.lemmas.List.{get_or-map, length-append, length-map}
 use Rattle.std.proofs.lemmas.Simd.{map-map}
 use Rattle.std.proofs.lemmas.List.Elements.{All-drop, All-head, All-map}
 use Rattle.std.proofs.lemmas.List.Sums.{sum_by-cons}
@@ -39,6 +39,12 @@ delivered_all {n} ps {s} done = record {
   by_told = rw length-map (rw length-map at done.by_length);
 }
 
+-- the hearers' legs are among those of all that is told
+pub hearers_legs : (xs : List Telling) (n : Notice) (ps : List Party) → All (λ telling. Leg telling.0) (xs ++ each n ps) → All (λ p. Leg p.leg) ps
+hearers_legs xs n ps legs i d lt =
+    let behind : All (λ t. Leg t.0) (each n ps) = rw drop-append_seam at (All-drop (λ t. Leg t.0) (length xs) (xs ++ each n ps) legs) in
+    subst (λ (t : Telling). Leg t.0) (get_or-map (λ p. (p.leg, n)) ps i d (d.leg, n) lt) (behind i (d.leg, n) (rw length-map lt))
+
 -- once the first of it is told, the rest can be told
 pub tellable_behind : (xs ys : List Telling) {s s' : Standings} {room room' : ℕ} → Tellable (xs ++ ys) room → Delivered xs s s' room room' → Tellable ys room'
 tellable_behind xs ys can done = record {
@@ -53,10 +59,7 @@ told_one_ok l n s s' room room' (Err NoSuchLeg) told can = absurd (told.0 (All-h
 told_one_ok l n s s' room room' (Err NoRoom) told can = let some = can.roomy in let none = told.1 in absurd (omega arith)
 
 -- nor are those for some parties
-pub told_all_ok : (n : Notice) (ps : List Party) (s s' : Standings) (room room' : ℕ) (r : Result Unit Refusal) → TellsEach (legs_of ps) n s s' room room' r → Tellable (each n ps) room → IsOk r
-told_all_ok n ps s s' room room' (Ok _) told can = refl
-told_all_ok n ps s s' room room' (Err NoSuchLeg) told can = absurd (told.0 (rw map-map at (All-map Leg (λ t. t.0) (each n ps) can.legs)))
-told_all_ok n ps s s' room room' (Err NoRoom) told can =
-    let some = rw length-map at can.roomy in
-    let few = rw length-map at told.1 in
-    absurd (omega arith)
+pub told_all_ok : (n : Notice) (ps : List Party) (s s' : Standings) (room room' : ℕ) (r : Result Unit Refusal) → TellsEach (legs_of ps) n s s' room room' r → length ps ≤ room → All (λ p. Leg p.leg) ps → IsOk r
+told_all_ok n ps s s' room room' (Ok _) told roomy legs = refl
+told_all_ok n ps s s' room room' (Err NoSuchLeg) told roomy legs = absurd (told.0 (All-map Leg (λ p. p.leg) ps legs))
+told_all_ok n ps s s' room room' (Err NoRoom) told roomy legs = let few = rw length-map at told.1 in absurd (omega arith)

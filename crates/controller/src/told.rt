@@ -1,6 +1,7 @@
 // What is told, and to whom.
 ghost use Rattle.std.specs.Option.{option_to_list};
-ghost use Rattle.std.specs.Prelude.{◌≡◌, [], length};
+ghost use Rattle.std.specs.Prelude.{◌≡◌, ◌≤◌, [], All, length};
+ghost use Rattle.line.specs.Meaning.{Leg};
 ghost use Rattle.controller.specs.Deeds.{deed_effect, told_list};
 ghost use Rattle.controller.specs.Steps.{each, others};
 ghost use Rattle.controller.specs.Telling.{Delivered, Tellable};
@@ -72,7 +73,8 @@ fn tell_own<L: Line>(own: Option<(u8, Notice)>, line: &mut L)
 
 // Tells a notice to each of some parties.
 fn tell_parties<L: Line>(parties: &ArrayVec<Party, 64>, notice: Notice, line: &mut L)
-    requires { Tellable (each notice parties.now.items) (L.room line.old) }
+    requires roomy { length parties.now.items ≤ L.room line.old }
+    requires legs { All (λ party. Leg party.leg) parties.now.items }
     ensures delivered { Delivered (each notice parties.now.items) (L.standing line.old) (L.standing line.new) (L.room line.old) (L.room line.new) }
     ensures order { TellsInOrder L.tells (each notice parties.now.items) line.old line.new }
 {
@@ -103,6 +105,7 @@ impl Told {
     }
 
     // Tells it all on a line that has room for it.
+    #[tactic(auto, using(line::proofs::Orders::order_append))]
     pub(crate) fn tell<L: Line>(&self, line: &mut L)
         requires { Tellable (told_list self.now) (L.room line.old) }
         ensures delivered { Delivered (told_list self.now) (L.standing line.old) (L.standing line.new) (L.room line.old) (L.room line.new) }
