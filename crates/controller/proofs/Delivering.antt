@@ -1,9 +1,8 @@
 -- What is told on a line, one notice after another, is delivered.
-use Rattle.std.proofs.Common.{All, arith, length, ◌≤◌, ◌+◌, ◌≡◌, ℕ, Bool, true, false, cond, eqb, List, [], ◌∷◌, ◌++◌, map, Ok, Err, Result, IsOk, refl, subst, sym, ◌∙◌, add_comm, add-one, zero-add}
+use Rattle.std.proofs.Common.{All, arith, get_or, length, ◌≤◌, ◌+◌, ◌≡◌, ℕ, Bool, true, false, cond, eqb, List, [], ◌∷◌, ◌++◌, map, Ok, Err, Result, IsOk, refl, subst, sym, ◌∙◌, add_comm, add-one, zero-add}
 use Rattle.std.specs.List.{filter}
 use Rattle.std.proofs.Math.Seq.{drop-append_seam}
-use Rattle.std.proofs.lemmas.List.{get_or-map, length-append, length-map}
-use Rattle.std.proofs.lemmas.Simd.{map-map}
+use Rattle.std.proofs.lemmas.List.{get_or-map, length-map}
 use Rattle.std.proofs.lemmas.List.Elements.{All-drop, All-head, All-map}
 use Rattle.std.proofs.lemmas.List.Sums.{sum_by-cons}
 use Rattle.line.specs.declared.meaning.Refusal.{Refusal}
@@ -43,14 +42,7 @@ delivered_all {n} ps {s} done = record {
 pub hearers_legs : (xs : List Telling) (n : Notice) (ps : List Party) → All (λ telling. Leg telling.0) (xs ++ each n ps) → All (λ p. Leg p.leg) ps
 hearers_legs xs n ps legs i d lt =
     let behind : All (λ t. Leg t.0) (each n ps) = rw drop-append_seam at (All-drop (λ t. Leg t.0) (length xs) (xs ++ each n ps) legs) in
-    subst (λ (t : Telling). Leg t.0) (get_or-map (λ p. (p.leg, n)) ps i d (d.leg, n) lt) (behind i (d.leg, n) (rw length-map lt))
-
--- once the first of it is told, the rest can be told
-pub tellable_behind : (xs ys : List Telling) {s s' : Standings} {room room' : ℕ} → Tellable (xs ++ ys) room → Delivered xs s s' room room' → Tellable ys room'
-tellable_behind xs ys can done = record {
-  roomy = let few = rw length-append at can.roomy in let fall = done.by_told in omega arith;
-  legs = rw drop-append_seam at (All-drop (λ t. Leg t.0) (length xs) (xs ++ ys) can.legs);
-}
+    subst (λ (t : Telling). Leg t.0) {x = get_or (each n ps) i (d.leg, n)} (get_or-map (λ p. (p.leg, n)) ps i d (d.leg, n) lt) (behind i (d.leg, n) (rw length-map lt))
 
 -- a notice that can be told is not refused
 pub told_one_ok : (l : ℕ) (n : Notice) (s s' : Standings) (room room' : ℕ) (r : Result Unit Refusal) → Tells l n s s' room room' r → Tellable ((l, n) ∷ []) room → IsOk r
