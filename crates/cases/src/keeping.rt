@@ -21,7 +21,7 @@ mod tests {
         assert_eq!(rt; tables.parties_of(0).as_slice(), [stays].as_slice());
         assert!(rt; tables.is_up(8) && !tables.is_up(7));
         let conference = tables.linked_to(5).ok_or("it goes on")?;
-        assert_eq!(rt; tables.next_party(conference), Some(2));
+        assert_eq!(rt; tables.next_party(conference), 2);
         tables.end(0);
         assert_eq!(rt; tables.conference_count(), 0);
         assert!(rt; !tables.is_up(8));
@@ -32,18 +32,18 @@ mod tests {
     #[test]
     fn ids_go_round(rt: HostRuntime) -> Result<(), Fail> {
         let mut tables = Tables::new();
-        assert_eq!(rt; tables.next_conference(), Some(0));
+        assert_eq!(rt; tables.next_conference(), 0);
         tables.begin(Conference::new(0, 3, 1))?;
         tables.begin(Conference::new(127, 3, 2))?;
-        assert_eq!(rt; tables.next_conference(), Some(1));
+        assert_eq!(rt; tables.next_conference(), 1);
         for id in 1..7 {
             tables.begin(Conference::new(id, 3, id + 2))?;
         }
         assert_eq!(rt; tables.begin(Conference::new(7, 3, 9)), Err(Full));
-        assert_eq!(rt; tables.next_conference(), Some(7));
-        assert_eq!(rt; tables.next_disc(), Some(0));
+        assert_eq!(rt; tables.next_conference(), 7);
+        assert_eq!(rt; tables.next_disc(), 0);
         tables.give_disc_id(0);
-        assert_eq!(rt; tables.next_disc(), Some(1));
+        assert_eq!(rt; tables.next_disc(), 1);
         Ok(())
     }
 

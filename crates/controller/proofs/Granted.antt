@@ -1,5 +1,5 @@
 -- Legs stay apart whatever is granted.
-use Rattle.std.proofs.Common.{◌≡◌, ℕ, ◌+◌, ◌≤◌, ◌==◌, ◌&&◌, not, Bool, true, false, cond, [], ◌∷◌, ◌++◌, filter, set, Some, None, Option, refl, arith}
+use Rattle.std.proofs.Common.{◌≡◌, ℕ, ◌+◌, ◌≤◌, ◌==◌, ◌&&◌, not, Bool, true, false, cond, [], ◌∷◌, ◌++◌, filter, set, Some, Ok, refl, arith}
 use Rattle.std.proofs.lemmas.Bool.{eqb-true, false≢true}
 use Rattle.std.proofs.lemmas.Bool.Decides.{nat_tests}
 use Rattle.tables.specs.declared.call.Call.{Call}
@@ -12,18 +12,19 @@ use Rattle.tables.specs.declared.conference.Party.{Party}
 use Rattle.tables.specs.declared.level.Level.{Level}
 use Rattle.tables.specs.Calls.{own_leg, leads_to_leg}
 use Rattle.tables.specs.Edits.{with_call, with_left, with_marked}
-use Rattle.tables.specs.Table.{Table, call_at, conference_with, next_conference, next_party, parties_of, party_with}
+use Rattle.tables.specs.Table.{Table, call_at, next_conference, next_party, parties_of, party_with}
 use Rattle.facility.specs.declared.request.Request.{Request}
-use Rattle.facility.specs.declared.request.Request.TheVariants as request
 use Rattle.line.specs.declared.notice.Notice.{Notice}
 use Rattle.line.specs.declared.notice.Notice.TheVariants.{Isolated, Reattached, OtherIsolated, OtherReattached}
 use Rattle.controller.specs.declared.carrier.Carrier.{Carrier}
-use Rattle.controller.specs.declared.carrier.Carrier.TheVariants.{Facility, Setup}
+use Rattle.controller.specs.declared.deed.Deed.{Deed}
 use Rattle.controller.specs.Apart.{Apart, times_up}
-use Rattle.controller.specs.Granting.{added, begun_by_setup, begun_on_call, effect_of, led_to, remarked, same_mark, split, with_found}
-use Rattle.controller.specs.Judging.{asked_size, control_of}
+use Rattle.controller.specs.Deeds.{deed_effect}
+use Rattle.controller.specs.Granting.{added, begun_by_setup, begun_on_call, led_to, remarked, same_mark, split as split_of}
+use Rattle.controller.specs.Judging.{asked_size, verdict}
 use Rattle.controller.specs.Steps.{Effect}
 use Rattle.controller.proofs.Finding.{found}
+use Rattle.controller.proofs.Passing.{Grants, begin_by_setup, begin_on_call, add, split, drop, isolate, reattach, granted}
 use Rattle.controller.proofs.Staying.{apart_call, apart_still, on_calls, on_calls-set, on_parties, on_parties-filter-le, on_parties-joined, on_parties-left, on_parties-marked}
 
 -- a call leads to its own leg alone
@@ -51,11 +52,6 @@ moved_back t r id p c q k is leads =
     let same : q.id ≡ p = eqb-true q.id p (found (λ x. x.id == p) q (parties_of t id) is).1 in
     let calls : on_calls k (set t.calls r c) ≤ on_calls k t.calls + cond (q.leg == k) 1 0 = rw (← leads) (omega (arith, on_calls-set k r c t.calls)) in
     rw same (omega (arith, calls, on_parties-left k id p q t.parties is))
-
--- where what is looked up is there, and where it is not
-found_apart : {X : Type 0} (t : Table) (o : Option X) (go : X → Effect) → Apart t → ((x : X) → o ≡ Some x → Apart (go x).table) → Apart (with_found t o go).table
-found_apart t None go apart each = apart
-found_apart t (Some x) go apart each = each x refl
 
 -- a party leaves
 left_apart : (t : Table) (id p : ℕ) → Apart t → Apart (with_left id p t)
@@ -92,31 +88,20 @@ added_apart id p r leg t own apart =
     (λ k. moved t r (record { state = Clearing; speech = (call_at t r).speech }) (record { conference = id; id = p; leg = leg; mark = mark.Joined }) k own refl)
 
 -- a party is split off
-split_apart : (id p r : ℕ) (q : Party) (t : Table) → party_with t id p ≡ Some q → Apart t → Apart (split id q r t).table
+split_apart : (id p r : ℕ) (q : Party) (t : Table) → party_with t id p ≡ Some q → Apart t → Apart (split_of id q r t).table
 split_apart id p r q t found apart =
-    apart_still t (split id q r t).table apart
+    apart_still t (split_of id q r t).table apart
     (λ k. moved_back t r id p (record { state = Idle (end.Leg q.leg); speech = true }) q k found refl)
 
 -- whatever a granted request does, each leg is up once at most
-pub granted_apart : (level : Level) (carrier : Carrier) (asked : Request) (t : Table) → Apart t → Apart (effect_of level carrier asked t).table
-granted_apart level (Setup r speech) (request.Begin size) t apart = found_apart t (next_conference t) _ apart (λ id is. by_setup_apart id (asked_size level size) r t apart)
-granted_apart level (Facility r) (request.Begin size) t apart =
-    found_apart t (next_conference t) _ apart
-    (λ id is. found_apart t (own_leg (call_at t r).state) _ apart (λ leg own. on_call_apart id (asked_size level size) r leg t own apart))
-granted_apart level (Facility r) (request.Add id) t apart =
-    found_apart t (conference_with t id) _ apart
-    (λ c is. found_apart t (next_party t c) _ apart (λ p next. found_apart t (own_leg (call_at t r).state) _ apart (λ leg own. added_apart id p r leg t own apart)))
-granted_apart level (Setup r speech) (request.Split id p) t apart = found_apart t (party_with t id p) _ apart (λ q is. split_apart id p r q t is apart)
-granted_apart level (Facility r) (request.Drop p) t apart =
-    found_apart t (control_of t r) _ apart (λ c is. found_apart t (party_with t c.id p) _ apart (λ q there. left_apart t c.id q.id apart))
-granted_apart level (Facility r) (request.Isolate p) t apart =
-    found_apart t (control_of t r) _ apart
-    (λ c is. found_apart t (party_with t c.id p) _ apart (λ q there. remarked_apart mark.Isolated Isolated OtherIsolated c.id q t apart))
-granted_apart level (Facility r) (request.Reattach p) t apart =
-    found_apart t (control_of t r) _ apart
-    (λ c is. found_apart t (party_with t c.id p) _ apart (λ q there. remarked_apart mark.Joined Reattached OtherReattached c.id q t apart))
-granted_apart level (Facility r) (request.Split id p) t apart = apart
-granted_apart level (Setup r speech) (request.Add id) t apart = apart
-granted_apart level (Setup r speech) (request.Drop p) t apart = apart
-granted_apart level (Setup r speech) (request.Isolate p) t apart = apart
-granted_apart level (Setup r speech) (request.Reattach p) t apart = apart
+pub granted_apart : (level : Level) (t : Table) (room : ℕ) (carrier : Carrier) (q : Request) (d : Deed) → verdict level t room carrier q ≡ Ok d → Apart t → Apart (deed_effect t d).table
+granted_apart level t room carrier q d is apart = go (granted level t room carrier q d is).comes
+  where
+    go : {carrier : Carrier} {q : Request} {d : Deed} → Grants level t carrier q d → Apart (deed_effect t d).table
+    go (begin_by_setup r speech size begins) = by_setup_apart (next_conference t) (asked_size level size) r t apart
+    go (begin_on_call r size leg begins some own) = on_call_apart (next_conference t) (asked_size level size) r leg t own apart
+    go (add r id leg c there few own) = added_apart c.id (next_party t c) r leg t own apart
+    go (split r speech id p c q there has) = split_apart c.id p r q t has apart
+    go (drop r p c q is has) = left_apart t c.id q.id apart
+    go (isolate r p c q is has) = remarked_apart mark.Isolated Isolated OtherIsolated c.id q t apart
+    go (reattach r p c q is has) = remarked_apart mark.Joined Reattached OtherReattached c.id q t apart

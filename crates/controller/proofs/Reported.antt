@@ -82,18 +82,17 @@ sent_apart : (d : Option Disc) (t : Table) → Apart t → Apart (with_sent d t)
 sent_apart None t apart = apart
 sent_apart (Some d) t apart = apart_still t _ apart (λ k. omega arith)
 
-party_cleared_apart : (t : Table) (p : Party) (c : Option Conference) → Apart t → Apart (party_cleared t p c).effect.table
-party_cleared_apart t p None apart = apart
-party_cleared_apart t p (Some c) apart =
-    sent_apart (disc_for t c p) (with_left c.id p.id t)
-    (apart_still t (with_left c.id p.id t) apart (λ k. omega (arith, on_parties-filter-le k (λ q. not (q.conference == c.id && q.id == p.id)) t.parties)))
+party_cleared_apart : (t : Table) (p : Party) → Apart t → Apart (party_cleared t p).effect.table
+party_cleared_apart t p apart =
+    sent_apart (disc_for t p (conference_with t p.conference)) (with_left p.conference p.id t)
+    (apart_still t (with_left p.conference p.id t) apart (λ k. omega (arith, on_parties-filter-le k (λ q. not (q.conference == p.conference && q.id == p.id)) t.parties)))
 
 -- the remote user of a leg clears
 leg_cleared_apart : (room : ℕ) (t : Table) (r : Option ℕ) (p : Option Party) → Apart t → LeftApart (leg_cleared room t r p)
 leg_cleared_apart room t (Some r) p apart =
     event_apart (next_call event.RemoteClearing (call_at t r)) _ (λ c is. apart_call t r c apart (λ k. after_clearing k (call_at t r) c is))
 leg_cleared_apart room t None (Some p) apart =
-    unless_apart (nat_le (length (others t p.conference p.id)) room) NoRoom _ (λ _. party_cleared_apart t p (conference_with t p.conference) apart)
+    unless_apart (nat_le (length (others t p.conference p.id)) room) NoRoom _ (λ _. party_cleared_apart t p apart)
 leg_cleared_apart room t None None apart = tt
 
 -- what no element passes is not counted

@@ -1,19 +1,23 @@
 -- Where legs are apart, a call that leads to one leaves room for it as a party.
-use Rattle.std.proofs.Common.{not, is_some, ◌||◌, nat_lt, nat_le, ◌≡◌, ℕ, ◌<◌, ◌≤◌, ◌==◌, Bool, true, cond, List, [], ◌∷◌, length, get_or, Some, refl, false, sym, ◌∙◌, suc, zero, arith}
+use Rattle.std.proofs.Common.{◌≡◌, ℕ, ◌<◌, ◌≤◌, ◌==◌, Bool, true, cond, List, [], ◌∷◌, length, get_or, Some, Ok, refl, false, sym, ◌∙◌, suc, zero, arith}
 use Rattle.std.proofs.lemmas.List.{length-map}
 use Rattle.std.proofs.lemmas.Bool.{false≢true}
 use Rattle.std.proofs.lemmas.Bool.Decides.{nat_tests}
 use Rattle.std.specs.List.{count_by}
 use Rattle.std.proofs.lemmas.List.Sums.{sum_by-cons}
-use Rattle.tables.specs.declared.call.Call.{Call}
+use Rattle.facility.specs.declared.request.Request.{Request}
 use Rattle.tables.specs.declared.call.State.{State}
 use Rattle.tables.specs.declared.conference.Party.{Party}
-use Rattle.tables.specs.Calls.{absent, leads_to_conference, leads_to_leg, own_leg}
-use Rattle.tables.specs.Table.{Table, call_at, legs_of}
 use Rattle.tables.specs.declared.level.Level.{Level}
-use Rattle.controller.specs.Judging.{Verdict, granted, failed, first_wrong, in_progress, begin_on_call}
+use Rattle.tables.specs.Calls.{absent, leads_to_leg, own_leg}
+use Rattle.tables.specs.Table.{Table, call_at, legs_of}
+use Rattle.controller.specs.declared.carrier.Carrier.{Carrier}
+use Rattle.controller.specs.declared.deed.Deed.{Deed}
 use Rattle.controller.specs.Apart.{Apart, times_up}
+use Rattle.controller.specs.Deeds.{HasRoom}
+use Rattle.controller.specs.Judging.{verdict}
 use Rattle.controller.proofs.Distinct.{times, times-cons, length-distinct_but}
+use Rattle.controller.proofs.Passing.{Grants, begin_by_setup, begin_on_call, add, split, drop, isolate, reattach, granted}
 
 -- what passes a test is counted
 counted : {X : Type 0} (p : X → Bool) (xs : List X) (r : ℕ) (d : X) → p d ≡ false → p (get_or xs r d) ≡ true → 1 ≤ count_by p xs
@@ -46,20 +50,15 @@ room_for_party t r k apart own =
     (λ j there. apart.legs j (let is : 1 ≤ count_by (λ p. p.leg == j) t.parties = rw (← times-legs j t.parties) there in omega (arith, is))) in
     rw length-map at fewer
 
--- what is granted passed the third test
-third_passed : (a b c : Bool) (rest : List (Bool × Verdict)) → first_wrong ((a, failed 0) ∷ (b, failed 30) ∷ (c, failed 11) ∷ rest) ≡ granted → c ≡ false
-third_passed true b c rest is = cc
-third_passed false true c rest is = cc
-third_passed false false true rest is = cc
-third_passed false false false rest is = refl
-
--- a conference that is granted has room in the tables
-room_below : (level : Level) (n : ℕ) → nat_le level.conferences n ≡ false → n < 8
-room_below level n below = grind (arith, level.lawful.most_conferences)
-
--- so has one begun on a call in progress
-pub room_on_call : (level : Level) (t : Table) (size : ℕ) (c : Call) → begin_on_call level t size c ≡ granted → length t.conferences < 8
-room_on_call level t size c is =
-    let last : List (Bool × Verdict) =
-    (not (in_progress c.state), failed 7) ∷ (not c.speech || (not level.active || is_some (leads_to_conference c.state)), failed 3) ∷ [] in
-    room_below level (length t.conferences) (third_passed (not level.subscribed) (size == 0 || nat_lt level.size size) _ last is)
+-- what is granted has room in the tables
+pub granted_room : (level : Level) (t : Table) (room : ℕ) (carrier : Carrier) (q : Request) (d : Deed) → verdict level t room carrier q ≡ Ok d → Apart t → HasRoom t d
+granted_room level t room carrier q d is apart = go (granted level t room carrier q d is).comes
+  where
+    go : {carrier : Carrier} {q : Request} {d : Deed} → Grants level t carrier q d → HasRoom t d
+    go (begin_by_setup r speech size begins) = begins.room
+    go (begin_on_call r size leg begins some own) = (begins.room, room_for_party t r leg apart own)
+    go (add r id leg c there few own) = room_for_party t r leg apart own
+    go (split r speech id p c q there has) = tt
+    go (drop r p c q is has) = tt
+    go (isolate r p c q is has) = tt
+    go (reattach r p c q is has) = tt

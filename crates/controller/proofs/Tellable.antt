@@ -1,12 +1,11 @@
 -- What a step tells can be told, where legs are apart: it goes to legs that there are, and has room.
 use Rattle.std.proofs.Common.{◌≡◌, ◌==◌, ◌&&◌, not, ℕ, ◌≤◌, All, IfOk, Bool, true, false, cond, List, [], ◌∷◌, length, get_or, Some, None, Ok, Option, refl, eq-eqb, arith}
-use Rattle.std.proofs.lemmas.Bool.{eqb-true, leb-true}
+use Rattle.std.proofs.lemmas.Bool.{leb-true}
 use Rattle.std.proofs.lemmas.List.{length-map}
 use Rattle.std.proofs.lemmas.List.Elements.{All-cons, All-contains, All-filter, All-map, All-nil}
 use Rattle.std.proofs.lemmas.List.Sums.{get_or-le-sum_by}
 use Rattle.std.proofs.lemmas.Result.{IfOk-at_ok}
 use Rattle.facility.specs.declared.request.Request.{Request}
-use Rattle.facility.specs.declared.request.Request.TheVariants as request
 use Rattle.line.specs.declared.notice.Notice.{Notice}
 use Rattle.line.specs.declared.notice.Notice.TheVariants.{OtherDisconnected}
 use Rattle.line.specs.Order.{Telling}
@@ -20,19 +19,20 @@ use Rattle.tables.specs.declared.level.Level.{Level}
 use Rattle.tables.specs.declared.refusal.Refusal.TheVariants.{OutOfRange, WrongLeg, NoRoom}
 use Rattle.tables.specs.Calls.{next_call, own_leg}
 use Rattle.tables.specs.Edits.{with_call}
-use Rattle.tables.specs.Table.{Table, call_at, call_to, conference_with, is_up, linked_to, next_conference, next_party, parties_of, party_on, party_with}
+use Rattle.tables.specs.Table.{Table, call_at, call_to, is_up, linked_to, parties_of, party_on, party_with}
 use Rattle.controller.specs.declared.carrier.Carrier.{Carrier}
-use Rattle.controller.specs.declared.carrier.Carrier.TheVariants.{Facility, Setup}
+use Rattle.controller.specs.declared.deed.Deed.{Deed}
 use Rattle.controller.specs.declared.report.Report.{Report}
 use Rattle.controller.specs.declared.report.Report.TheVariants as report
 use Rattle.controller.specs.Apart.{Apart, times_up}
-use Rattle.controller.specs.Granting.{effect_of, remarked, same_mark, with_found}
-use Rattle.controller.specs.Judging.{granted, control_of, verdict}
+use Rattle.controller.specs.Deeds.{deed_effect}
+use Rattle.controller.specs.Granting.{remarked, same_mark}
+use Rattle.controller.specs.Judging.{verdict}
 use Rattle.controller.specs.Reports.{Accepted, by_event, disconnected, leg_cleared, leg_gone, party_cleared, quiet, released, reported, unless}
 use Rattle.controller.specs.Steps.{Effect, each, is_leg, is_reference, others}
 use Rattle.controller.specs.Telling.{Tellable}
 use Rattle.controller.proofs.Finding.{found}
-use Rattle.controller.proofs.Passing.{room_needed}
+use Rattle.controller.proofs.Passing.{Grants, begin_by_setup, begin_on_call, add, split, drop, isolate, reattach, granted}
 use Rattle.controller.proofs.Reported.{event_so, unless_so}
 use Rattle.controller.proofs.Room.{own_up}
 
@@ -83,11 +83,6 @@ first_legs l n rest leg more = All-cons (λ telling. Leg telling.0) (l, n) rest 
 none_legs : Legs []
 none_legs = All-nil (λ telling. Leg telling.0)
 
--- where what is looked up is there, and where it is not
-found_legs : {X : Type 0} (t : Table) (o : Option X) (go : X → Effect) → ((x : X) → o ≡ Some x → Legs (go x).told) → Legs (with_found t o go).told
-found_legs t None go there = none_legs
-found_legs t (Some x) go there = there x refl
-
 -- of two effects, whichever it is
 either_legs : (b : Bool) (e f : Effect) → Legs e.told → Legs f.told → Legs (cond b e f).told
 either_legs true e f this other = this
@@ -98,34 +93,20 @@ remarked_legs : (m : Mark) (own other : Notice) (id : ℕ) (p : Party) (t : Tabl
 remarked_legs m own other id p t apart leg = either_legs (same_mark p.mark m) _ _ none_legs (first_legs p.leg own _ leg (each_legs other _ (others_on_legs t id p.id apart)))
 
 -- whatever is granted
-granted_legs : (level : Level) (carrier : Carrier) (asked : Request) (t : Table) → Apart t → Legs (effect_of level carrier asked t).told
-granted_legs level (Setup r speech) (request.Begin size) t apart = found_legs t (next_conference t) _ (λ id is. none_legs)
-granted_legs level (Facility r) (request.Begin size) t apart =
-    found_legs t (next_conference t) _ (λ id is. found_legs t (own_leg (call_at t r).state) _ (λ l own. first_legs l _ [] (call_leg t r l apart own) none_legs))
-granted_legs level (Facility r) (request.Add id) t apart =
-    found_legs t (conference_with t id) _
-    (λ c is. found_legs t (next_party t c) _ (λ p next. found_legs t (own_leg (call_at t r).state) _ (λ l own. first_legs l _ _ (call_leg t r l apart own) (each_legs _ _ (conference_on_legs t id apart)))))
-granted_legs level (Setup r speech) (request.Split id p) t apart =
-    found_legs t (party_with t id p) _ (λ q is. first_legs q.leg _ _ (party_leg t id p q apart is) (each_legs _ _ (others_on_legs t id q.id apart)))
-granted_legs level (Facility r) (request.Drop p) t apart =
-    found_legs t (control_of t r) _ (λ c is. found_legs t (party_with t c.id p) _ (λ q there. each_legs _ _ (others_on_legs t c.id q.id apart)))
-granted_legs level (Facility r) (request.Isolate p) t apart =
-    found_legs t (control_of t r) _ (λ c is. found_legs t (party_with t c.id p) _ (λ q there. remarked_legs _ _ _ c.id q t apart (party_leg t c.id p q apart there)))
-granted_legs level (Facility r) (request.Reattach p) t apart =
-    found_legs t (control_of t r) _ (λ c is. found_legs t (party_with t c.id p) _ (λ q there. remarked_legs _ _ _ c.id q t apart (party_leg t c.id p q apart there)))
-granted_legs level (Facility r) (request.Split id p) t apart = none_legs
-granted_legs level (Setup r speech) (request.Add id) t apart = none_legs
-granted_legs level (Setup r speech) (request.Drop p) t apart = none_legs
-granted_legs level (Setup r speech) (request.Isolate p) t apart = none_legs
-granted_legs level (Setup r speech) (request.Reattach p) t apart = none_legs
+granted_legs : (level : Level) (t : Table) {carrier : Carrier} {asked : Request} {d : Deed} → Grants level t carrier asked d → Apart t → Legs (deed_effect t d).told
+granted_legs level t (begin_by_setup r speech size begins) apart = none_legs
+granted_legs level t (begin_on_call r size l begins some own) apart = first_legs l _ [] (call_leg t r l apart own) none_legs
+granted_legs level t (add r id l c there few own) apart = first_legs l _ _ (call_leg t r l apart own) (each_legs _ _ (conference_on_legs t c.id apart))
+granted_legs level t (split r speech id p c q there has) apart = first_legs q.leg _ _ (party_leg t c.id p q apart has) (each_legs _ _ (others_on_legs t c.id q.id apart))
+granted_legs level t (drop r p c q is has) apart = each_legs _ _ (others_on_legs t c.id q.id apart)
+granted_legs level t (isolate r p c q is has) apart = remarked_legs _ _ _ c.id q t apart (party_leg t c.id p q apart has)
+granted_legs level t (reattach r p c q is has) apart = remarked_legs _ _ _ c.id q t apart (party_leg t c.id p q apart has)
 
 -- all that a granted request tells can be told
-pub granted_tellable : (level : Level) (room : ℕ) (carrier : Carrier) (asked : Request) (t : Table)
-    → verdict level t room (length (effect_of level carrier asked t).told) carrier asked ≡ granted → Apart t → Tellable (effect_of level carrier asked t).told room
-granted_tellable level room carrier asked t is apart = record {
-  roomy = room_needed level t room (length (effect_of level carrier asked t).told) carrier asked is;
-  legs = granted_legs level carrier asked t apart;
-}
+pub granted_tellable : (level : Level) (t : Table) (room : ℕ) (carrier : Carrier) (asked : Request) (d : Deed) → verdict level t room carrier asked ≡ Ok d → Apart t → Tellable (deed_effect t d).told room
+granted_tellable level t room carrier asked d is apart =
+    let known = granted level t room carrier asked d is in
+    record { roomy = known.roomy; legs = granted_legs level t known.comes apart }
 
 -- to tell nobody needs no room
 none_tellable : (room : ℕ) → Tellable [] room
@@ -136,17 +117,14 @@ abbrev CanTell : ℕ → Accepted → Type 0
 CanTell room a = Tellable a.effect.told room
 
 -- a party that clears was checked for room
-cleared_tellable : (room : ℕ) (t : Table) (p : Party) (o : Option Conference) → conference_with t p.conference ≡ o → length (others t p.conference p.id) ≤ room → Apart t → CanTell room (party_cleared t p o)
-cleared_tellable room t p None is few apart = none_tellable room
-cleared_tellable room t p (Some c) is few apart =
-    let same : c.id ≡ p.conference = eqb-true c.id p.conference (found (λ d. d.id == p.conference) c t.conferences is).1 in
-    record { roomy = rw (length-map, same) few; legs = each_legs OtherDisconnected _ (others_on_legs t c.id p.id apart) }
+cleared_tellable : (room : ℕ) (t : Table) (p : Party) → length (others t p.conference p.id) ≤ room → Apart t → CanTell room (party_cleared t p)
+cleared_tellable room t p few apart = record { roomy = rw length-map few; legs = each_legs OtherDisconnected _ (others_on_legs t p.conference p.id apart) }
 
 -- the remote user of a leg clears
 clearing_tellable : (room : ℕ) (t : Table) (r : Option ℕ) (p : Option Party) → Apart t → IfOk (leg_cleared room t r p) (CanTell room)
 clearing_tellable room t (Some r) p apart = event_so (CanTell room) (next_call event.RemoteClearing (call_at t r)) _ (λ c is. none_tellable room)
 clearing_tellable room t None (Some p) apart =
-    unless_so (CanTell room) _ NoRoom _ (λ roomy. cleared_tellable room t p (conference_with t p.conference) refl (leb-true (length (others t p.conference p.id)) room roomy) apart)
+    unless_so (CanTell room) _ NoRoom _ (λ roomy. cleared_tellable room t p (leb-true (length (others t p.conference p.id)) room roomy) apart)
 clearing_tellable room t None None apart = tt
 
 -- an event of a call tells nobody

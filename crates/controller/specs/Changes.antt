@@ -6,7 +6,7 @@ use Rattle.tables.specs.declared.refusal.Refusal.{Refusal}
 use Rattle.tables.specs.Edits.{with_call, with_left, with_phase, with_ended}
 use Rattle.tables.specs.Table.{Table, parties_of}
 use Rattle.controller.specs.declared.change.Change.{Change}
-use Rattle.controller.specs.declared.change.Change.TheVariants.{Call, Ending, End, Leave, Nothing}
+use Rattle.controller.specs.declared.change.Change.TheVariants.{Call, Ending, End, Leave}
 use Rattle.controller.specs.Reports.{Accepted, quiet, with_sent}
 use Rattle.controller.specs.Steps.{each, others}
 
@@ -19,7 +19,6 @@ change_accepted t (Leave id p disc) = record {
   effect = record { table = with_sent disc (with_left id p t); told = each OtherDisconnected (others t id p); gone = 1 };
   disc = disc;
 }
-change_accepted t Nothing = quiet t 0
 
 -- a report that is refused is answered so
 abbrev pub outcome : Table → Result Change Refusal → Result Accepted Refusal

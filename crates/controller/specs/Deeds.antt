@@ -1,5 +1,5 @@
 -- What a granted request comes to, once all that it needs is looked up. Assumes nothing.
-use Rattle.std.specs.Prelude.{ℕ, ◌<◌, length, List, ◌++◌, Option}
+use Rattle.std.specs.Prelude.{ℕ, ◌<◌, length, List, ◌++◌}
 use Rattle.std.specs.Option.{option_to_list}
 use Rattle.line.specs.declared.notice.Notice.{Notice}
 use Rattle.line.specs.declared.notice.Notice.TheVariants.{Isolated, Reattached, OtherIsolated, OtherReattached}
@@ -7,7 +7,7 @@ use Rattle.tables.specs.declared.conference.Mark.TheVariants as mark
 use Rattle.tables.specs.Table.{Table}
 use Rattle.controller.specs.declared.deed.Deed.{Deed}
 use Rattle.controller.specs.declared.deed.Deed.TheVariants.{BeginBySetup, BeginOnCall, Add, Split, Drop, Remark}
-use Rattle.controller.specs.Granting.{begun_by_setup, begun_on_call, added, split, dropped, remarked, with_found}
+use Rattle.controller.specs.Granting.{begun_by_setup, begun_on_call, added, split, dropped, remarked}
 use Rattle.controller.specs.declared.told.Told.{Told}
 use Rattle.controller.specs.Steps.{Effect, each}
 
@@ -20,10 +20,6 @@ deed_effect t (Split id p r) = split id p r t
 deed_effect t (Drop id p) = dropped id p t
 deed_effect t (Remark id p mark.Isolated) = remarked mark.Isolated Isolated OtherIsolated id p t
 deed_effect t (Remark id p mark.Joined) = remarked mark.Joined Reattached OtherReattached id p t
-
--- what is done where a deed is found
-abbrev pub found_effect : Table → Option Deed → Effect
-found_effect t d = with_found t d (deed_effect t)
 
 -- the tables have room for the conference, or the party, that a deed brings
 abbrev pub HasRoom : Table → Deed → Type 0

@@ -1,24 +1,16 @@
 -- What a granted request does: to the tables, to the line, and to the legs. Assumes nothing.
-use Rattle.std.specs.Prelude.{ℕ, Bool, true, false, cond, [], ◌∷◌, Some, None, Option}
+use Rattle.std.specs.Prelude.{ℕ, Bool, true, false, cond, [], ◌∷◌}
 use Rattle.line.specs.declared.notice.Notice.{Notice}
-use Rattle.line.specs.declared.notice.Notice.TheVariants.{Established, Disconnected, OtherAdded, Isolated, Reattached, OtherIsolated, OtherReattached, OtherSplit, OtherDisconnected}
+use Rattle.line.specs.declared.notice.Notice.TheVariants.{Established, Disconnected, OtherAdded, OtherSplit, OtherDisconnected}
 use Rattle.tables.specs.declared.call.End.TheVariants as end
 use Rattle.tables.specs.declared.call.State.{State}
 use Rattle.tables.specs.declared.call.State.TheVariants.{Idle, Held, Clearing}
 use Rattle.tables.specs.declared.conference.Mark.{Mark}
 use Rattle.tables.specs.declared.conference.Mark.TheVariants as mark
 use Rattle.tables.specs.declared.conference.Party.{Party}
-use Rattle.tables.specs.declared.level.Level.{Level}
-pub use Rattle.tables.specs.Calls.{own_leg}
 pub use Rattle.tables.specs.Edits.{new_conference}
 use Rattle.tables.specs.Edits.{with_call, with_begun, with_joined, with_left, with_marked}
-pub use Rattle.tables.specs.Table.{next_conference, next_party}
-use Rattle.tables.specs.Table.{Table, call_at, conference_with, parties_of, party_with}
-use Rattle.facility.specs.declared.request.Request.{Request}
-use Rattle.facility.specs.declared.request.Request.TheVariants as request
-use Rattle.controller.specs.declared.carrier.Carrier.{Carrier}
-use Rattle.controller.specs.declared.carrier.Carrier.TheVariants.{Facility, Setup}
-use Rattle.controller.specs.Judging.{asked_size, control_of}
+use Rattle.tables.specs.Table.{Table, call_at, parties_of}
 use Rattle.controller.specs.Steps.{Effect, each, others}
 
 -- nothing is changed, told or gone
@@ -74,25 +66,3 @@ abbrev pub remarked : Mark → Notice → Notice → ℕ → Party → Table →
 remarked m own other id p t =
     cond (same_mark p.mark m) (nothing t)
     (record { table = with_marked id p.id m t; told = (p.leg, own) ∷ each other (others t id p.id); gone = 0 })
-
--- the effect where all that is looked up is there
-abbrev pub with_found : {X : Type 0} → Table → Option X → (X → Effect) → Effect
-with_found t None go = nothing t
-with_found t (Some x) go = go x
-
--- what a request does, if it is granted
-abbrev pub effect_of : Level → Carrier → Request → Table → Effect
-effect_of level (Setup r speech) (request.Begin size) t =
-    with_found t (next_conference t) (λ id. begun_by_setup id (asked_size level size) r t)
-effect_of level (Facility r) (request.Begin size) t =
-    with_found t (next_conference t) (λ id. with_found t (own_leg (call_at t r).state) (λ leg. begun_on_call id (asked_size level size) r leg t))
-effect_of level (Facility r) (request.Add id) t =
-    with_found t (conference_with t id) (λ c. with_found t (next_party t c) (λ p. with_found t (own_leg (call_at t r).state) (λ leg. added id p r leg t)))
-effect_of level (Setup r speech) (request.Split id p) t = with_found t (party_with t id p) (λ q. split id q r t)
-effect_of level (Facility r) (request.Drop p) t =
-    with_found t (control_of t r) (λ c. with_found t (party_with t c.id p) (λ q. dropped c.id q t))
-effect_of level (Facility r) (request.Isolate p) t =
-    with_found t (control_of t r) (λ c. with_found t (party_with t c.id p) (λ q. remarked mark.Isolated Isolated OtherIsolated c.id q t))
-effect_of level (Facility r) (request.Reattach p) t =
-    with_found t (control_of t r) (λ c. with_found t (party_with t c.id p) (λ q. remarked mark.Joined Reattached OtherReattached c.id q t))
-effect_of level carrier _ t = nothing t

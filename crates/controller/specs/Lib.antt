@@ -1,11 +1,11 @@
 pub mod Steps
 pub mod Reports
 pub mod Changes
+pub mod Granting
+pub mod Deeds
 pub mod Judging
 pub mod Verdicts
-pub mod Granting
 pub mod Apart
-pub mod Deeds
 pub mod Telling
 pub mod Replies
 pub mod Outcomes

@@ -1,53 +1,44 @@
 -- The message body that answers a request. Assumes nothing.
-use Rattle.std.specs.Prelude.{ℕ, ℤ, pos, Bool, cond, ◌&&◌, nat_lt, List, [], ◌∷◌, ◌++◌, length, Some, None, Option}
-use Rattle.std.specs.Option.{unwrap_or}
+use Rattle.std.specs.Prelude.{ℕ, ℤ, pos, Bool, false, cond, nat_lt, List, [], ◌∷◌, ◌++◌, Some, None, Option, Ok, Err}
 use Rattle.components.specs.declared.component.Problem.TheVariants as problem
 use Rattle.components.specs.Component.{Said, result, error, reject}
 use Rattle.components.specs.Writing.{encoded}
 use Rattle.ber.specs.Structure.{Part}
 use Rattle.ber.specs.Value.{tagged}
-use Rattle.tables.specs.declared.conference.Conference.{Conference}
 use Rattle.tables.specs.declared.level.Level.{Level}
-use Rattle.tables.specs.Table.{Table, conference_with, next_conference, next_party}
+use Rattle.tables.specs.Table.{Table}
 use Rattle.facility.specs.declared.request.Request.{Request}
-use Rattle.facility.specs.declared.request.Request.TheVariants as request
 use Rattle.facility.specs.declared.request.RequestInvoke.{RequestInvoke}
 use Rattle.facility.specs.Requests.{number_octets}
 use Rattle.controller.specs.declared.carrier.Carrier.{Carrier}
 use Rattle.controller.specs.declared.carrier.Carrier.TheVariants.{Facility, Setup}
-use Rattle.controller.specs.Granting.{effect_of, nothing}
-use Rattle.controller.specs.Judging.{Verdict, granted, failed, rejected, is_granted, in_use, verdict}
+use Rattle.controller.specs.declared.deed.Deed.{Deed}
+use Rattle.controller.specs.declared.deed.Deed.TheVariants.{BeginBySetup, BeginOnCall, Add}
+use Rattle.controller.specs.declared.verdict.InvokeProblem.TheVariants.{ResourceLimitation}
+use Rattle.controller.specs.declared.verdict.Wrong.TheVariants.{Failed, Rejected}
+use Rattle.controller.specs.Deeds.{deed_effect}
+use Rattle.controller.specs.Granting.{nothing}
+use Rattle.controller.specs.Judging.{Verdict, in_use, judged, needed, verdict}
 use Rattle.controller.specs.Steps.{Effect}
+use Rattle.controller.specs.Verdicts.{error_number, problem_number}
 
 -- a value of a result, wherever it will lie
 abbrev pub value : List ℕ → Part
 value xs = record { octets = xs; place = 0 }
 
--- the ConferenceId and the PartyId that a request gets, where it is granted
-abbrev pub conference_given : Table → ℕ
-conference_given t = unwrap_or (next_conference t) 0
-
-abbrev pub party_given : Table → Option Conference → ℕ
-party_given t None = 0
-party_given t (Some c) = unwrap_or (next_party t c) 0
-
 -- what a result has, with the operation that it answers: a begin the ConferenceId, and behind it the PartyId of the call in
 -- progress; an add the PartyId; the others nothing
-abbrev pub ids_given : Carrier → Request → Table → Option (ℤ × Part)
-ids_given (Setup r speech) (request.Begin size) t = Some (pos 40, value (tagged 0x30 (number_octets (conference_given t))))
-ids_given (Facility r) (request.Begin size) t = Some (pos 40, value (tagged 0x30 (number_octets (conference_given t) ++ number_octets 0)))
-ids_given (Facility r) (request.Add c) t = Some (pos 41, value (number_octets (party_given t (conference_with t c))))
-ids_given carrier _ t = None
+abbrev pub ids_given : Deed → Option (ℤ × Part)
+ids_given (BeginBySetup id size r) = Some (pos 40, value (tagged 0x30 (number_octets id)))
+ids_given (BeginOnCall id size r leg) = Some (pos 40, value (tagged 0x30 (number_octets id ++ number_octets 0)))
+ids_given (Add c p r leg) = Some (pos 41, value (number_octets p))
+ids_given _ = None
 
--- the component by a verdict: a result with the ids given, a return error without parameter, or a reject
-abbrev pub component_of : ℤ → Option (ℤ × Part) → Verdict → Said
-component_of id ids granted = result id ids
-component_of id ids (failed code) = error id (pos code) None
-component_of id ids (rejected code) = reject (Some id) (problem.Invoke code)
-
--- the component that answers a request
-abbrev pub reply : Carrier → RequestInvoke → Table → Verdict → Said
-reply carrier asked t v = component_of asked.id (ids_given carrier asked.request t) v
+-- the component that answers a request: a result with the ids given, a return error without parameter, or a reject
+abbrev pub reply : ℤ → Verdict → Said
+reply id (Ok deed) = result id (ids_given deed)
+reply id (Err (Failed why)) = error id (pos (error_number why)) None
+reply id (Err (Rejected why)) = reject (Some id) (problem.Invoke (problem_number why))
 
 -- cause 31, normal, unspecified, of the public network that serves the local user
 abbrev pub cause : List ℕ
@@ -67,35 +58,36 @@ release_complete = 0x5a ∷ cause
 
 -- the message: FACILITY to FACILITY, but DISCONNECT where a call was added; CONNECT or RELEASE COMPLETE to a SETUP, but FACILITY
 -- where its reference is that of a call
-abbrev pub head : Carrier → Request → Table → Verdict → List ℕ
-head (Facility r) (request.Add c) t granted = disconnect
-head (Facility r) asked t v = facility
-head (Setup r speech) asked t granted = connect
-head (Setup r speech) asked t v = cond (in_use (Setup r speech) t) facility release_complete
+abbrev pub head : Carrier → Table → Verdict → List ℕ
+head (Facility r) t (Ok (Add c p ref leg)) = disconnect
+head (Facility r) t v = facility
+head (Setup r speech) t (Ok deed) = connect
+head (Setup r speech) t (Err why) = cond (in_use (Setup r speech) t) facility release_complete
 
 -- how a request is settled: the message body, and what is done
 pub record Settled : Type 0 where
   pub body : List ℕ
   pub effect : Effect
 
-abbrev pub done_if : Verdict → Effect → Table → Effect
-done_if granted e t = e
-done_if _ e t = nothing t
+-- what is granted is done, and nothing else
+abbrev pub done : Table → Verdict → Effect
+done t (Ok deed) = deed_effect t deed
+done t (Err why) = nothing t
 
-abbrev pub settled_as : Carrier → RequestInvoke → Table → Effect → Verdict → Settled
-settled_as carrier asked t e v = record { body = head carrier asked.request t v ++ encoded (reply carrier asked t v); effect = done_if v e t }
+abbrev pub settled_as : Carrier → ℤ → Table → Verdict → Settled
+settled_as carrier id t v = record { body = head carrier t v ++ encoded (reply id v); effect = done t v }
 
 abbrev pub settled : Level → ℕ → Carrier → RequestInvoke → Table → Settled
-settled level room carrier asked t =
-    let e = effect_of level carrier asked.request t in
-    settled_as carrier asked t e (verdict level t room (length e.told) carrier asked.request)
+settled level room carrier asked t = settled_as carrier asked.id t (verdict level t room carrier asked.request)
 
--- want of room stops a request: with the room that it needs it would be granted, and there is less
+-- want of room stops a request: but for room it would be granted, and there is less than it needs
+abbrev pub too_little : ℕ → Table → Verdict → Bool
+too_little room t (Ok deed) = nat_lt room (needed t deed)
+too_little room t (Err why) = false
+
 abbrev pub lacks_room : Level → ℕ → Carrier → Request → Table → Bool
-lacks_room level room carrier asked t =
-    let needed = length (effect_of level carrier asked t).told in
-    nat_lt room needed && is_granted (verdict level t needed needed carrier asked)
+lacks_room level room carrier asked t = too_little room t (judged level t carrier asked)
 
 -- turned away: FACILITY with a reject, and nothing is done
 abbrev pub turned_away : RequestInvoke → List ℕ
-turned_away asked = facility ++ encoded (reject (Some asked.id) (problem.Invoke 3))
+turned_away asked = facility ++ encoded (reply asked.id (Err (Rejected ResourceLimitation)))

@@ -1,6 +1,5 @@
 -- What each report does, or why it is refused. Assumes nothing.
 use Rattle.std.specs.Prelude.{ℕ, Bool, cond, not, ◌&&◌, List, [], length, Some, None, Ok, Err, Option, Result, nat_le}
-use Rattle.std.specs.Option.{option_map}
 use Rattle.line.specs.declared.notice.Notice.{Notice}
 use Rattle.line.specs.declared.notice.Notice.TheVariants.{OtherDisconnected}
 use Rattle.tables.specs.declared.call.Call.{Call}
@@ -56,12 +55,13 @@ abbrev pub released : Option Conference → Table → Accepted
 released None t = quiet t 0
 released (Some c) t = quiet (with_ended c.id t) (length (parties_of t c.id))
 
--- the PartyDISC for a party of a conference: only an Open one sends it
-abbrev pub disc_for : Table → Conference → Party → Option Disc
-disc_for t c p = by_phase c.phase
+-- the PartyDISC for a party: only the link of an Open conference is sent it
+abbrev pub disc_for : Table → Party → Option Conference → Option Disc
+disc_for t p None = None
+disc_for t p (Some c) = by_phase c.phase
   where
     by_phase : Phase → Option Disc
-    by_phase Open = option_map (λ id. record { link = c.link; party = p.id; id = id }) (next_disc t)
+    by_phase Open = Some (record { link = c.link; party = p.id; id = next_disc t })
     by_phase Ending = None
 
 -- an invoke id that was given is then the last given
@@ -69,22 +69,23 @@ abbrev pub with_sent : Option Disc → Table → Table
 with_sent None t = t
 with_sent (Some d) t = with_disc d.id t
 
--- a party clears: the others hear of it
-abbrev pub party_cleared : Table → Party → Option Conference → Accepted
-party_cleared t p None = quiet t 0
-party_cleared t p (Some c) = record {
-  effect = record {
-    table = with_sent (disc_for t c p) (with_left c.id p.id t);
-    told = each OtherDisconnected (others t c.id p.id);
-    gone = 1;
-  };
-  disc = disc_for t c p;
-}
+-- a party clears: it leaves its conference, and the others hear of it
+abbrev pub party_cleared : Table → Party → Accepted
+party_cleared t p =
+    let disc = disc_for t p (conference_with t p.conference) in
+    record {
+      effect = record {
+        table = with_sent disc (with_left p.conference p.id t);
+        told = each OtherDisconnected (others t p.conference p.id);
+        gone = 1;
+      };
+      disc = disc;
+    }
 
 -- the remote user of a leg clears: a party whose others there is no room to tell is refused
 abbrev pub leg_cleared : ℕ → Table → Option ℕ → Option Party → Result Accepted Refusal
 leg_cleared room t (Some r) q = by_event (next_call event.RemoteClearing (call_at t r)) (λ c. Ok (quiet (with_call r c t) 1))
-leg_cleared room t None (Some p) = unless (nat_le (length (others t p.conference p.id)) room) NoRoom (Ok (party_cleared t p (conference_with t p.conference)))
+leg_cleared room t None (Some p) = unless (nat_le (length (others t p.conference p.id)) room) NoRoom (Ok (party_cleared t p))
 leg_cleared room t None None = Err WrongLeg
 
 -- what a report tells

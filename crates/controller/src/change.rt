@@ -34,8 +34,6 @@ pub(crate) enum Change {
         party: u8,
         disc: Option<Disc>,
     },
-    // a party clears whose conference is not there
-    Nothing,
 }
 
 impl Change {
@@ -77,7 +75,6 @@ impl Change {
                     tables.give_disc_id(disc.id);
                 }
             }
-            Change::Nothing => {}
         }
     }
 
@@ -103,7 +100,7 @@ impl Change {
             Change::Call { gone, .. } => gone,
             Change::End { conference, .. } => tables.party_count(conference),
             Change::Leave { .. } => 1,
-            Change::Ending { .. } | Change::Nothing => 0,
+            Change::Ending { .. } => 0,
         }
     }
 

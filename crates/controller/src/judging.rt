@@ -1,18 +1,18 @@
-// What becomes of a request: each test in the order of the rules, and the first that fails says why.
-ghost use Rattle.std.specs.Prelude.{◌≡◌, length};
-ghost use Rattle.controller.specs.Judging.{add_to, asked_size, begin_by_setup, begin_on_call, carrier_verdict, carries, control_of, control_party, in_progress, in_use, is_full, is_open, no_party, operation_verdict, room_verdict, split_off, verdict};
-ghost use Rattle.controller.specs.Verdicts.{verdict_of};
+// What becomes of a request: each test in the order of the rules, and the first that fails says why; or the deed that it comes to.
+ghost use Rattle.std.specs.Prelude.{◌≡◌};
+ghost use Rattle.controller.specs.Judging.{add_to, asked_size, begin_by_setup, begin_on_call, carries, control_of, control_party, in_progress, in_use, is_full, judged, needed, opened, operation_verdict, split_off, verdict};
 
 use crate::carrier::Carrier;
+use crate::deed::Deed;
 use crate::verdict::InvokeProblem::{ResourceLimitation, UnrecognizedOperation};
 use crate::verdict::OperationError::{
     IllConferenceId, IllPartyId, InvalidCallState, NotActive, NotAllowed, NotAvailable,
     NotSubscribed, NumberOfPartiesExceeded, ResourceUnavailable,
 };
+use crate::verdict::Verdict;
 use crate::verdict::Wrong::{Failed, Rejected};
-use crate::verdict::{Verdict, Wrong};
 use facility::Request;
-use tables::{Call, Conference, Level, Phase, State, Tables};
+use tables::{Call, Conference, Level, Mark, Phase, State, Tables};
 
 // Split needs SETUP, begin takes either, and the others need FACILITY.
 fn carries(carrier: Carrier, request: Request) -> bool
@@ -37,11 +37,14 @@ pub(crate) fn in_use(carrier: Carrier, tables: &Tables) -> bool
     }
 }
 
-// Whether a conference is there, and open.
-fn is_open(conference: Option<Conference>) -> bool
-    ensures { result ≡ is_open conference }
+// A conference that is open.
+fn opened(conference: Option<Conference>) -> Option<Conference>
+    ensures { result ≡ opened conference }
 {
-    matches!(conference, Some(c) if c.phase == Phase::Open)
+    match conference {
+        Some(c) if c.phase == Phase::Open => Some(c),
+        _ => None,
+    }
 }
 
 // Whether a call is idle or held.
@@ -52,7 +55,7 @@ fn in_progress(call: Call) -> bool
 }
 
 // The conference that the call at a reference is the link of.
-pub(crate) fn control_of(tables: &Tables, reference: u8) -> Option<Conference>
+fn control_of(tables: &Tables, reference: u8) -> Option<Conference>
     ensures { result ≡ control_of tables.now reference }
 {
     let id = tables.call(reference).conference()?;
@@ -60,35 +63,22 @@ pub(crate) fn control_of(tables: &Tables, reference: u8) -> Option<Conference>
 }
 
 // The size that a begin asks for: the level's, if it gives none.
-pub(crate) fn asked_size(level: Level, size: Option<u8>) -> u8
+fn asked_size(level: Level, size: Option<u8>) -> u8
     ensures { result ≡ asked_size level size }
 {
     size.unwrap_or(level.size())
 }
 
-// Whether a conference lacks a party.
-fn no_party(tables: &Tables, conference: Option<Conference>, party: u8) -> bool
-    ensures { result ≡ no_party tables.now conference party }
-{
-    match conference {
-        None => true,
-        Some(c) => tables.party(c.id, party).is_none(),
-    }
-}
-
 // Whether a conference has as many parties as it may have.
-fn is_full(tables: &Tables, conference: Option<Conference>) -> bool
+fn is_full(tables: &Tables, conference: Conference) -> bool
     ensures { result ≡ is_full tables.now conference }
 {
-    match conference {
-        None => false,
-        Some(c) => usize::from(c.size) <= tables.party_count(c.id),
-    }
+    usize::from(conference.size) <= tables.party_count(conference.id)
 }
 
 // A conference begun by SETUP.
-fn begin_by_setup(level: Level, tables: &Tables, size: u8, speech: bool) -> Verdict
-    ensures { verdict_of result ≡ begin_by_setup level tables.now size speech }
+fn begin_by_setup(level: Level, tables: &Tables, reference: u8, size: u8, speech: bool) -> Verdict
+    ensures { result ≡ begin_by_setup level tables.now reference size speech }
 {
     if !level.subscribed() {
         return Err(Failed(NotSubscribed));
@@ -102,13 +92,18 @@ fn begin_by_setup(level: Level, tables: &Tables, size: u8, speech: bool) -> Verd
     if !speech {
         return Err(Failed(NotAvailable));
     }
-    Ok(())
+    Ok(Deed::BeginBySetup {
+        id: tables.next_conference(),
+        size,
+        reference,
+    })
 }
 
-// One begun on a call in progress, which is not the link of a conference.
-fn begin_on_call(level: Level, tables: &Tables, size: u8, call: Call) -> Verdict
-    ensures { verdict_of result ≡ begin_on_call level tables.now size call }
+// One begun on a call in progress; the link of a conference has no leg of its own.
+fn begin_on_call(level: Level, tables: &Tables, reference: u8, size: u8) -> Verdict
+    ensures { result ≡ begin_on_call level tables.now reference size }
 {
+    let call = tables.call(reference);
     if !level.subscribed() {
         return Err(Failed(NotSubscribed));
     }
@@ -121,99 +116,126 @@ fn begin_on_call(level: Level, tables: &Tables, size: u8, call: Call) -> Verdict
     if !in_progress(call) {
         return Err(Failed(InvalidCallState));
     }
-    if !call.speech || !level.active() || call.conference().is_some() {
+    if !call.speech || !level.active() {
         return Err(Failed(NotAvailable));
     }
-    Ok(())
+    let leg = call.own_leg().ok_or(Failed(NotAvailable))?;
+    Ok(Deed::BeginOnCall {
+        id: tables.next_conference(),
+        size,
+        reference,
+        leg,
+    })
 }
 
 // A call added to a conference.
-fn add_to(tables: &Tables, conference: Option<Conference>, call: Call) -> Verdict
-    ensures { verdict_of result ≡ add_to tables.now conference call }
+fn add_to(tables: &Tables, id: u8, reference: u8) -> Verdict
+    ensures { result ≡ add_to tables.now id reference }
 {
-    if !is_open(conference) {
-        return Err(Failed(IllConferenceId));
-    }
+    let conference = opened(tables.conference(id)).ok_or(Failed(IllConferenceId))?;
+    let call = tables.call(reference);
     if is_full(tables, conference) {
         return Err(Failed(NumberOfPartiesExceeded));
     }
     if !in_progress(call) {
         return Err(Failed(InvalidCallState));
     }
-    if !call.speech || call.conference().is_some() {
+    if !call.speech {
         return Err(Failed(NotAllowed));
     }
-    Ok(())
+    let leg = call.own_leg().ok_or(Failed(NotAllowed))?;
+    Ok(Deed::Add {
+        conference: conference.id,
+        party: tables.next_party(conference),
+        reference,
+        leg,
+    })
 }
 
 // A party split off; without speech that is rejected.
-fn split_off(tables: &Tables, conference: Option<Conference>, party: u8, speech: bool) -> Verdict
-    ensures { verdict_of result ≡ split_off tables.now conference party speech }
+fn split_off(tables: &Tables, id: u8, party: u8, reference: u8, speech: bool) -> Verdict
+    ensures { result ≡ split_off tables.now id party reference speech }
 {
-    if !is_open(conference) {
-        return Err(Failed(IllConferenceId));
-    }
-    if no_party(tables, conference, party) {
-        return Err(Failed(IllPartyId));
-    }
+    let conference = opened(tables.conference(id))
+        .ok_or(Failed(IllConferenceId))?
+        .id;
+    let party = tables.party(conference, party).ok_or(Failed(IllPartyId))?;
     if !speech {
         return Err(Rejected(ResourceLimitation));
     }
-    Ok(())
+    Ok(Deed::Split {
+        conference,
+        party,
+        reference,
+    })
 }
 
-// A party dropped, isolated or reattached: the call has to be the link of an open conference.
-fn control_party(tables: &Tables, conference: Option<Conference>, party: u8) -> Verdict
-    ensures { verdict_of result ≡ control_party tables.now conference party }
+// A party dropped: the call has to be the link of an open conference.
+fn drop_party(tables: &Tables, reference: u8, party: u8) -> Verdict
+    ensures { result ≡ control_party tables.now reference party (λ c q. Deed.Drop c q) }
 {
-    if !is_open(conference) {
-        return Err(Failed(NotActive));
-    }
-    if no_party(tables, conference, party) {
-        return Err(Failed(IllPartyId));
-    }
-    Ok(())
+    let conference = opened(control_of(tables, reference))
+        .ok_or(Failed(NotActive))?
+        .id;
+    let party = tables.party(conference, party).ok_or(Failed(IllPartyId))?;
+    Ok(Deed::Drop { conference, party })
 }
 
-// The operation's own errors.
+// A party isolated or reattached, likewise.
+fn mark_party(tables: &Tables, reference: u8, party: u8, mark: Mark) -> Verdict
+    ensures { result ≡ control_party tables.now reference party (λ c q. Deed.Remark c q mark) }
+{
+    let conference = opened(control_of(tables, reference))
+        .ok_or(Failed(NotActive))?
+        .id;
+    let party = tables.party(conference, party).ok_or(Failed(IllPartyId))?;
+    Ok(Deed::Remark {
+        conference,
+        party,
+        mark,
+    })
+}
+
+// The operation's own errors, and what it comes to where there is none.
 fn operation_verdict(level: Level, tables: &Tables, carrier: Carrier, request: Request) -> Verdict
-    ensures { verdict_of result ≡ operation_verdict level tables.now carrier request }
+    ensures { result ≡ operation_verdict level tables.now carrier request }
 {
     match (carrier, request) {
-        (Carrier::Setup { speech, .. }, Request::Begin { size }) => begin_by_setup(
+        (Carrier::Setup { reference, speech }, Request::Begin { size }) => begin_by_setup(
             level,
             tables,
+            reference,
             asked_size(level, size),
             speech,
         ),
         (Carrier::Facility { reference }, Request::Begin { size }) => begin_on_call(
             level,
             tables,
+            reference,
             asked_size(level, size),
-            tables.call(reference),
         ),
         (Carrier::Facility { reference }, Request::Add { conference }) => add_to(
-            tables,
-            tables.conference(conference),
-            tables.call(reference),
+            tables, conference, reference,
         ),
-        (Carrier::Setup { speech, .. }, Request::Split { conference, party }) => split_off(
-            tables,
-            tables.conference(conference),
-            party,
-            speech,
+        (Carrier::Setup { reference, speech }, Request::Split { conference, party }) => split_off(
+            tables, conference, party, reference, speech,
         ),
-        (
-            Carrier::Facility { reference },
-            Request::Drop { party } | Request::Isolate { party } | Request::Reattach { party },
-        ) => control_party(tables, control_of(tables, reference), party),
+        (Carrier::Facility { reference }, Request::Drop { party }) => {
+            drop_party(tables, reference, party)
+        }
+        (Carrier::Facility { reference }, Request::Isolate { party }) => {
+            mark_party(tables, reference, party, Mark::Isolated)
+        }
+        (Carrier::Facility { reference }, Request::Reattach { party }) => {
+            mark_party(tables, reference, party, Mark::Joined)
+        }
         _ => Err(Rejected(UnrecognizedOperation)),
     }
 }
 
-// The carrier's checks.
-fn carrier_verdict(tables: &Tables, carrier: Carrier, request: Request) -> Verdict
-    ensures { verdict_of result ≡ carrier_verdict tables.now carrier request }
+// The carrier's checks first, and then the operation's errors.
+pub(crate) fn judged(level: Level, tables: &Tables, carrier: Carrier, request: Request) -> Verdict
+    ensures { result ≡ judged level tables.now carrier request }
 {
     if !carries(carrier, request) {
         return Err(Rejected(UnrecognizedOperation));
@@ -221,31 +243,29 @@ fn carrier_verdict(tables: &Tables, carrier: Carrier, request: Request) -> Verdi
     if in_use(carrier, tables) {
         return Err(Rejected(ResourceLimitation));
     }
-    Ok(())
+    operation_verdict(level, tables, carrier, request)
 }
 
-// Whether there is room for the notices that have to be told.
-fn room_verdict(room: usize, needed: usize) -> Verdict
-    ensures { verdict_of result ≡ room_verdict room needed }
+// How many notices a deed needs room for.
+pub(crate) fn needed(tables: &Tables, deed: Deed) -> usize
+    ensures { result ≡ needed tables.now deed }
 {
-    if room < needed {
-        return Err(Rejected(ResourceLimitation));
-    }
-    Ok(())
+    deed.told(tables).count()
 }
 
-// The carrier's checks first, then the operation's errors, and room last.
+// What becomes of a request: room, for so many notices, comes last.
 pub(crate) fn verdict(
     level: Level,
     tables: &Tables,
     room: usize,
-    needed: usize,
     carrier: Carrier,
     request: Request,
 ) -> Verdict
-    ensures { verdict_of result ≡ verdict level tables.now room needed carrier request }
+    ensures { result ≡ verdict level tables.now room carrier request }
 {
-    carrier_verdict(tables, carrier, request)?;
-    operation_verdict(level, tables, carrier, request)?;
-    room_verdict(room, needed)
+    let deed = judged(level, tables, carrier, request)?;
+    if room < needed(tables, deed) {
+        return Err(Rejected(ResourceLimitation));
+    }
+    Ok(deed)
 }

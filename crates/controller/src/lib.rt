@@ -21,7 +21,9 @@ mod verdict;
 
 pub use carrier::Carrier;
 pub use controller::Controller;
+pub use deed::Deed;
 pub use disc::Disc;
 pub use pending::{PendingReply, Reply};
 pub use report::{Acceptance, Report};
 pub use reporting::is_reference;
+pub use verdict::{InvokeProblem, OperationError, Wrong};

@@ -10,7 +10,6 @@ ghost use Rattle.tables.specs.declared.refusal.Refusal.TheVariants.{OutOfRange};
 
 use crate::carrier::Carrier;
 use crate::controller::Controller;
-use crate::deed::Deed;
 use crate::doing::do_deed;
 use crate::judging::verdict;
 use crate::replying::{reply, turned_away};
@@ -44,28 +43,25 @@ impl PendingReply {
     }
 
     // Settles the request: granted, and done; or an error or a reject, and then nothing changes.
-    #[tactic(auto, using(crate::proofs::Tellable::granted_tellable, crate::proofs::Granted::granted_apart, crate::proofs::Passing::operation_granted))]
+    #[tactic(auto, using(crate::proofs::Tellable::granted_tellable, crate::proofs::Granted::granted_apart, crate::proofs::Room::granted_room))]
     pub fn settle<L: Line>(self, controller: &mut Controller, line: &mut L) -> Reply
         ensures answered { Settles (settled controller.old.level (L.room line.old) self.carrier self.asked controller.old.tables) result controller.new.tables (L.standing line.old) (L.standing line.new) (L.room line.old) (L.room line.new) }
         ensures order { TellsInOrder L.tells (settled controller.old.level (L.room line.old) self.carrier self.asked controller.old.tables).effect.told line.old line.new }
         ensures level { controller.new.level ≡ controller.old.level }
     {
         let PendingReply { carrier, asked } = self;
-        let level = controller.level;
-        let deed = Deed::of(level, carrier, asked.request, &controller.tables);
-        let needed = deed.map_or(0, |deed| deed.told(&controller.tables).count());
+        let tables = &controller.tables;
         let verdict = verdict(
-            level,
-            &controller.tables,
+            controller.level,
+            tables,
             line.room(),
-            needed,
             carrier,
             asked.request,
         );
-        let message = reply(carrier, asked, &controller.tables, verdict);
-        let gone = match (verdict, deed) {
-            (Ok(()), Some(deed)) => do_deed(&mut controller.tables, line, deed),
-            _ => 0,
+        let message = reply(carrier, asked.id, tables, verdict);
+        let gone = match verdict {
+            Ok(deed) => do_deed(&mut controller.tables, line, deed),
+            Err(_) => 0,
         };
         Reply { message, gone }
     }

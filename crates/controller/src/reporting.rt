@@ -6,7 +6,7 @@ ghost use Rattle.controller.specs.Reports.{by_event, disc_for, party_cleared, qu
 ghost use Rattle.controller.specs.Steps.{is_leg, is_reference};
 ghost use Rattle.tables.specs.Calls.{next_call};
 ghost use Rattle.tables.specs.Edits.{with_call};
-ghost use Rattle.tables.specs.Table.{call_at, conference_with};
+ghost use Rattle.tables.specs.Table.{call_at};
 
 use crate::change::Change;
 use crate::disc::Disc;
@@ -71,32 +71,29 @@ fn answered(tables: &Tables, reference: u8, leg: u8, speech: bool) -> Result<Cha
     })
 }
 
-// The PartyDISC for a party of a conference: only an open one sends it.
-fn disc_for(tables: &Tables, conference: Conference, party: Party) -> Option<Disc>
-    ensures { result ≡ disc_for tables.now conference party }
+// The PartyDISC for a party: only the link of an open conference is sent it.
+fn disc_for(tables: &Tables, party: Party, conference: Option<Conference>) -> Option<Disc>
+    ensures { result ≡ disc_for tables.now party conference }
 {
-    if conference.phase == Phase::Ending {
-        return None;
+    let Conference { link, phase, .. } = conference?;
+    match phase {
+        Phase::Open => Some(Disc {
+            link,
+            party: party.id,
+            id: tables.next_disc(),
+        }),
+        Phase::Ending => None,
     }
-    let id = tables.next_disc()?;
-    Some(Disc {
-        link: conference.link,
-        party: party.id,
-        id,
-    })
 }
 
-// A party clears.
+// A party clears: it leaves its conference.
 fn party_cleared(tables: &Tables, party: Party) -> Change
-    ensures { change_accepted tables.now result ≡ party_cleared tables.now party (conference_with tables.now party.conference) }
+    ensures { change_accepted tables.now result ≡ party_cleared tables.now party }
 {
-    match tables.conference(party.conference) {
-        None => Change::Nothing,
-        Some(conference) => Change::Leave {
-            conference: conference.id,
-            party: party.id,
-            disc: disc_for(tables, conference, party),
-        },
+    Change::Leave {
+        conference: party.conference,
+        party: party.id,
+        disc: disc_for(tables, party, tables.conference(party.conference)),
     }
 }
 

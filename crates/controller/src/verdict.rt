@@ -1,10 +1,12 @@
-// What becomes of a request: it is granted, or it is not, and then one error or one problem says why.
+// What becomes of a request: it is granted, and comes to a deed; or one error or one problem says what is wrong.
 ghost use Rattle.std.specs.Prelude.{◌≡◌};
 ghost use Rattle.controller.specs.Verdicts.{error_number, problem_number};
 
+use crate::deed::Deed;
+
 // The return errors of the conference operations, each with its number.
 #[derive(Clone, Copy, PartialEq, Eq, Debug)]
-pub(crate) enum OperationError {
+pub enum OperationError {
     NotSubscribed = 0,
     NotAvailable = 3,
     InvalidCallState = 7,
@@ -27,7 +29,7 @@ impl OperationError {
 
 // The invoke problems of a reject, each with its number.
 #[derive(Clone, Copy, PartialEq, Eq, Debug)]
-pub(crate) enum InvokeProblem {
+pub enum InvokeProblem {
     UnrecognizedOperation = 1,
     ResourceLimitation = 3,
 }
@@ -43,12 +45,12 @@ impl InvokeProblem {
 
 // Why a request is not granted.
 #[derive(Clone, Copy, PartialEq, Eq, Debug)]
-pub(crate) enum Wrong {
+pub enum Wrong {
     // answered with a return error
     Failed(OperationError),
     // answered with a reject
     Rejected(InvokeProblem),
 }
 
-// Granted, or why not.
-pub(crate) type Verdict = Result<(), Wrong>;
+// Granted, with the deed that it comes to; or why not.
+pub(crate) type Verdict = Result<Deed, Wrong>;

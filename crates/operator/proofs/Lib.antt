@@ -11,7 +11,6 @@ pub mod Moves
 pub mod Law
 pub mod Keeping
 pub mod Reporting
-pub mod Circling
 pub mod Attending
 pub mod Reading
 pub mod Requesting

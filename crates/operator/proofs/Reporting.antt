@@ -1,7 +1,7 @@
 -- Roster, table and standings go on fitting after a report.
 use Rattle.std.proofs.Common.{◌≡◌, ℕ, ◌<◌, Bool, true, false, cond, eqb, leb, not, ◌&&◌, length, Some, None, Ok, Err, Result, Option, refl, subst, ap, ◌∙◌, sym, arith}
 use Rattle.std.specs.List.{find, position}
-use Rattle.std.proofs.lemmas.Bool.{eq-eqb, eqb-true, leb-true, true≢false, and_parts, not-true}
+use Rattle.std.proofs.lemmas.Bool.{eq-eqb, eqb-true, leb-true, and_parts, not-true}
 use Rattle.std.proofs.lemmas.List.Quantifiers.{position-Some}
 use Rattle.line.specs.Meaning.{Leg, Standings}
 use Rattle.tables.specs.declared.call.Call.{Call}
@@ -24,12 +24,12 @@ use Rattle.controller.specs.Telling.{Heard}
 use Rattle.controller.specs.declared.report.Report.{Report}
 use Rattle.controller.specs.declared.report.Report.TheVariants as report
 use Rattle.operator.specs.declared.steps.Step.TheVariants as step
-use Rattle.operator.specs.Roster.{down, party, is_in, is_on, is_up as is_up', Roster, written, counted, struck, ended}
+use Rattle.operator.specs.Roster.{down, party, is_on, is_up as is_up', Roster, written, counted, struck, ended}
 use Rattle.operator.specs.Turns.{report_turn}
 use Rattle.operator.proofs.Holding.{Kept}
 use Rattle.operator.proofs.Keeping.{counted_none, kept_same, kept_call, kept_up, kept_down, kept_phase, kept_gone, kept_ended, with_legs, changed_at, placed_at, changed_nowhere, leads_on, alone_on}
-use Rattle.operator.proofs.Conferring.{found_linked, none_linked, linked_there}
-use Rattle.operator.proofs.Lists.{In, in_found, none_found}
+use Rattle.operator.proofs.Conferring.{found_linked, none_linked}
+use Rattle.operator.proofs.Lists.{In, in_found}
 use Rattle.operator.proofs.Looking.{not_up, known}
 
 -- whatever fitted before a report fits after it, if this is what becomes of it
@@ -141,19 +141,13 @@ clears_call r t s s' leg ref (Idle (end.Leg k)) lt below is leads kept = λ hear
 clears_call r t s s' leg ref (Held (end.Leg k)) lt below is leads kept = λ heard. kept_down s' leg ref _ _ lt (leads_on r.legs r.links t.calls leg ref kept.holds.calls_fit (rw is leads)) (placed_at leg down r.legs below) refl heard kept
 clears_call r t s s' leg ref st lt below is leads kept = refused_fits (report.RemoteClearing leg) r t s s' WrongState kept
 
--- remote clearing of a party: its conference is there
-clears_party : (r : Roster) (t : Table) (s s' : Standings) (leg : ℕ) (q : Party) (o : Option Conference) → Leg leg → In q t.parties → q.leg ≡ leg → conference_with t q.conference ≡ o → Kept r t s
-    → Fits (report.RemoteClearing leg) r t s s' (Ok (party_cleared t q o))
-clears_party r t s s' leg q None below there is none kept =
-    let entry = (known r.legs t.parties q kept.holds.parties_fit there).entry in
-    let home = kept.holds.housed q.leg q.conference (ap (is_in q.conference) entry ∙ eq-eqb q.conference q.conference refl) in
-    let c = linked_there r.links t.conferences home.0 q.conference kept.holds.linked home.1 in
-    absurd (true≢false (sym (eq-eqb c.0.id q.conference c.3) ∙ none_found (λ c. eqb c.id q.conference) c.0 t.conferences none c.1))
-clears_party r t s s' leg q (Some c) below there is found kept =
+-- remote clearing of a party
+clears_party : (r : Roster) (t : Table) (s s' : Standings) (leg : ℕ) (q : Party) → Leg leg → In q t.parties → q.leg ≡ leg → Kept r t s
+    → Fits (report.RemoteClearing leg) r t s s' (Ok (party_cleared t q))
+clears_party r t s s' leg q below there is kept =
     let k = known r.legs t.parties q kept.holds.parties_fit there in
-    let id = eqb-true c.id q.conference (in_found (λ c. eqb c.id q.conference) c t.conferences found).1 in
-    let was : r.legs leg ≡ party c.id q.id k.joined k.isolated = ap r.legs (sym is) ∙ k.entry ∙ ap (λ x. party x q.id k.joined k.isolated) (sym id) in
-    λ heard. sent_kept (disc_for t c q) (kept_gone s' leg c.id q.id k.joined k.isolated _ was (placed_at leg down r.legs below) heard kept)
+    let was : r.legs leg ≡ party q.conference q.id k.joined k.isolated = ap r.legs (sym is) ∙ k.entry in
+    λ heard. sent_kept (disc_for t q (conference_with t q.conference)) (kept_gone s' leg q.conference q.id k.joined k.isolated _ was (placed_at leg down r.legs below) heard kept)
   where
     sent_kept : {r : Roster} {t : Table} {s : Standings} (d : Option Disc) → Kept r t s → Kept r (with_sent d t) s
     sent_kept None kept = kept
@@ -168,7 +162,7 @@ clearing_fits r t s s' room leg (Some ref) q below at_call at_party kept =
     clears_call r t s s' leg ref (call_at t ref).state (omega (arith, found.0)) below refl found.1 kept
 clearing_fits r t s s' room leg None (Some p) below at_call at_party kept =
     let found = in_found (λ p. eqb p.leg leg) p t.parties at_party in
-    unless_fits (report.RemoteClearing leg) r t s s' (leb (length (others t p.conference p.id)) room) NoRoom (Ok (party_cleared t p (conference_with t p.conference))) kept (λ roomy. clears_party r t s s' leg p (conference_with t p.conference) below found.0 (eqb-true p.leg leg found.1) refl kept)
+    unless_fits (report.RemoteClearing leg) r t s s' (leb (length (others t p.conference p.id)) room) NoRoom (Ok (party_cleared t p)) kept (λ roomy. clears_party r t s s' leg p below found.0 (eqb-true p.leg leg found.1) kept)
 clearing_fits r t s s' room leg None None below at_call at_party kept = refused_fits (report.RemoteClearing leg) r t s s' WrongLeg kept
 
 -- whatever is reported, the company is kept

@@ -56,13 +56,13 @@ abbrev pub is_up : ℕ → Table → Bool
 is_up k t = list_any (λ c. leads_to_leg k c.state) t.calls || list_any (λ p. p.leg == k) t.parties
 
 -- the next ConferenceId, passing over those of the conferences that there are
-abbrev pub next_conference : Table → Option ℕ
+abbrev pub next_conference : Table → ℕ
 next_conference t = next_id t.conference_ids (λ id. is_some (conference_with t id))
 
 -- the next PartyId of a conference, passing over those of its parties
-abbrev pub next_party : Table → Conference → Option ℕ
+abbrev pub next_party : Table → Conference → ℕ
 next_party t c = next_id c.parties.last (λ p. is_some (party_with t c.id p))
 
 -- the next invoke id of a PartyDISC, of which none is in use
-abbrev pub next_disc : Table → Option ℕ
+abbrev pub next_disc : Table → ℕ
 next_disc t = next_id t.disc_ids (λ _. false)

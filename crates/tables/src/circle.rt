@@ -31,13 +31,15 @@ impl Circle {
         Circle { last: 127 }
     }
 
-    // The id that comes next; none where all are in use.
-    pub(crate) fn next<F: Fn(u8) -> bool>(self, used: F) -> Option<u8>
+    // The id that comes next; the last again, where all are in use.
+    pub(crate) fn next<F: Fn(u8) -> bool>(self, used: F) -> u8
         requires { F.IsAlwaysCallable used }
         ensures { (is_used : ℕ → Bool) → Tells (F.post used) is_used → result ≡ next_id self.last is_used }
     {
         let Circle { last } = self;
-        first_unused(last.saturating_add(1), 127, &used).or_else(|| first_unused(0, last, &used))
+        first_unused(last.saturating_add(1), 127, &used)
+            .or_else(|| first_unused(0, last, &used))
+            .unwrap_or(last)
     }
 }
 

@@ -23,7 +23,7 @@ pub struct Tables {
 }
 
 impl Model for Tables {
-    ghost use Rattle.std.specs.Prelude.{◌≡◌, length};
+    ghost use Rattle.std.specs.Prelude.{◌≡◌, ◌≤◌, length};
     ghost use Rattle.tables.specs.Table.{Table};
 
     ghost Value = { Table };
@@ -32,7 +32,7 @@ impl Model for Tables {
 
     ghost inverse = { λ t. record { calls = t.calls; conferences = record { items = t.conferences }; parties = record { items = t.parties }; conference_ids = record { last = t.conference_ids }; disc_ids = record { last = t.disc_ids } } };
 
-    ghost invariant = { λ t. length t.calls ≡ 128 };
+    ghost invariant = { λ t. (length t.calls ≡ 128) × (length t.conferences.items ≤ 8) × (length t.parties.items ≤ 64) };
 }
 
 impl Tables {

@@ -1,5 +1,5 @@
 // What the tables hold: look-ups that change nothing.
-ghost use Rattle.std.specs.Prelude.{◌≡◌, ◌==◌, length, position};
+ghost use Rattle.std.specs.Prelude.{◌≡◌, ◌==◌, None, length, position};
 ghost use Rattle.std.specs.List.{list_any};
 ghost use Rattle.tables.specs.Table.{call_at, conference_with, linked_to, parties_of, party_with, next_conference, next_party, next_disc, call_to, party_on, is_up};
 ghost use Rattle.tables.specs.Calls.{leads_to_leg};
@@ -72,15 +72,25 @@ impl Tables {
             .count()
     }
 
-    // The ConferenceId that comes next, passing over those of the conferences that there are; none where all are in use.
-    pub fn next_conference(&self) -> Option<u8>
+    // The ConferenceId in turn, passing over those of the conferences that there are.
+    fn conference_in_turn(&self) -> u8
         ensures { result ≡ next_conference self.now }
     {
         self.conference_ids.next(|id| self.conference(id).is_some())
     }
 
-    // The PartyId that comes next in a conference, passing over those of its parties; none where all are in use.
-    pub fn next_party(&self, conference: Conference) -> Option<u8>
+    // The ConferenceId that comes next: no conference has it.
+    #[tactic(auto, using(crate::proofs::Circling::conference_free))]
+    pub fn next_conference(&self) -> u8
+        ensures next { result ≡ next_conference self.now }
+        ensures free { conference_with self.now result ≡ None }
+    {
+        let _ = &self.conferences;
+        self.conference_in_turn()
+    }
+
+    // The PartyId in turn, passing over those of the parties of the conference.
+    fn party_in_turn(&self, conference: Conference) -> u8
         ensures { result ≡ next_party self.now conference }
     {
         conference
@@ -88,8 +98,18 @@ impl Tables {
             .next(|id| self.party(conference.id, id).is_some())
     }
 
+    // The PartyId that comes next in a conference: none of its parties has it.
+    #[tactic(auto, using(crate::proofs::Circling::party_free, crate::proofs::Circling::few_of))]
+    pub fn next_party(&self, conference: Conference) -> u8
+        ensures next { result ≡ next_party self.now conference }
+        ensures free { party_with self.now conference.id result ≡ None }
+    {
+        let _ = &self.parties;
+        self.party_in_turn(conference)
+    }
+
     // The invoke id of the next PartyDISC; none is ever in use.
-    pub fn next_disc(&self) -> Option<u8>
+    pub fn next_disc(&self) -> u8
         ensures { result ≡ next_disc self.now }
     {
         self.disc_ids.next(|_| false)

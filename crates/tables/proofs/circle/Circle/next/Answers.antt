@@ -4,4 +4,4 @@ use Rattle.tables.proofs.circle.Circle.next.Goals as goal
 
 pub returns : goal.returns
 returns g c = λ is_used tells.
-    next_either c.args.self.last _ is_used _ _ _ c.saturating_add.ensures (omega arith) (c.first_unused.ensures is_used tells) c.or_else.ensures (λ gave. search rules)
+    rw c.unwrap_or.ensures (next_either c.args.self.last _ is_used _ _ _ c.saturating_add.ensures (omega arith) (c.first_unused.ensures is_used tells) c.or_else.ensures (λ gave. search rules))
