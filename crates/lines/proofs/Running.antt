@@ -181,7 +181,3 @@ nothing_answered takes ends h input output = stopped takes ends h h [] [] [] inp
 pub on_err : {X Y : Type 0} {A : Type 0} (result : Result X Y) → A → OnErr result A
 on_err (Ok x) a = tt
 on_err (Err y) a = a
-
--- none of octets
-pub take_none : (n : ℕ) (xs : List ℕ) → n ≡ 0 → take n xs ≡ []
-take_none n xs is = ap (λ k. take k xs) is

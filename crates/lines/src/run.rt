@@ -1,6 +1,6 @@
 // An input answered on an output, line by line.
-ghost use Rattle.std.specs.Prelude.{◌≡◌, ℕ, ◌<◌, List, [], ◌++◌, IfOk, OnErr, OnOk, length, take};
-ghost use Rattle.std.specs.Io.KnownBytes.{Appends};
+ghost use Rattle.std.specs.Prelude.{◌≡◌, ℕ, ◌<◌, ◌≤◌, List, [], ◌++◌, IfNone, IfOk, IfSome, OnErr, OnOk, length, take};
+ghost use Rattle.std.specs.Io.KnownBytes.{Appends, Consumes, IsAtEnd, Keeps};
 ghost use Rattle.lines.specs.Answering.{AnswersAll, AnswersSome, AreAnswered, text_of};
 ghost use Rattle.lines.specs.Cutting.{ended, going_on, kept};
 
@@ -65,6 +65,20 @@ fn new_block(heap: Global) -> Result<Vec<u8>, AllocError>
     Ok(vec![in heap; 0; BLOCK]?)
 }
 
+// Reads the next block of input: how many octets it has; none where the input is at its end.
+fn next_block<R: Read>(input: &mut R, block: &mut [u8]) -> io::Result<Option<usize>>
+    requires { 0 < length block.old }
+    ensures count { IfOk result (λ next. IfSome next (λ count. count ≤ length block.new)) }
+    ensures read { IfOk result (λ next. IfSome next (λ count. Consumes (R.remaining input.old) (R.remaining input.new) (take count block.new))) }
+    ensures end { IfOk result (λ next. IfNone next (Consumes (R.remaining input.old) (R.remaining input.new) [] × IsAtEnd (R.remaining input.new))) }
+    ensures kept { OnErr result (Keeps (R.remaining input.old) (R.remaining input.new)) }
+{
+    match read_block(input, block)? {
+        0 => Ok(None),
+        count => Ok(Some(count)),
+    }
+}
+
 // Answers all lines of an input on an output, in blocks as long as this memory.
 fn answer_blocks<H: LineHandler, R: Read, W: Write>(
     heap: Global,
@@ -82,14 +96,17 @@ fn answer_blocks<H: LineHandler, R: Read, W: Write>(
     let mut cutter = LineCutter::new(heap);
     let mut answers = Answers::new(heap);
     for _ in 0..TRIES {
-        let count = read_block(input, block)?;
-        if count == 0 {
-            answer_end(handler, cutter.line(), &mut answers)?;
-            write_answers(output, &mut answers)?;
-            return Ok(());
+        match next_block(input, block)? {
+            Some(count) => {
+                answer_block(handler, &mut cutter, &block[..count], &mut answers)?;
+                write_answers(output, &mut answers)?;
+            }
+            None => {
+                answer_end(handler, cutter.line(), &mut answers)?;
+                write_answers(output, &mut answers)?;
+                return Ok(());
+            }
         }
-        answer_block(handler, &mut cutter, &block[..count], &mut answers)?;
-        write_answers(output, &mut answers)?;
     }
     Err(ErrorKind::Interrupted.into())
 }

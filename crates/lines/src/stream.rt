@@ -6,7 +6,7 @@ use std::io;
 use std::io::{ErrorKind, Read, Write};
 
 // More tries than any run makes: a loop has to be seen to end.
-pub const TRIES: u64 = u64::MAX;
+pub(crate) const TRIES: u64 = u64::MAX;
 
 // Reads a block of input: how many octets it has, none only where the input is at its end. An interrupted read is made again; where
 // a read fails, nothing was read.
