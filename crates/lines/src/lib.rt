@@ -15,4 +15,4 @@ pub use feed::{Answerer, answer_input, answer_input_on};
 pub use handler::LineHandler;
 pub use hex::{HexError, is_white, read_octets};
 pub use run::answer_lines;
-pub use stream::{read_block, write_whole};
+pub use stream::{read_block, read_up_to, write_whole};

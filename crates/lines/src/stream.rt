@@ -25,6 +25,23 @@ pub fn read_block<R: Read>(input: &mut R, block: &mut [u8]) -> io::Result<usize>
     Err(ErrorKind::Interrupted.into())
 }
 
+// Fills memory with what is read: how many octets that are, fewer than there is room for only where the input is at its end.
+pub fn read_up_to<R: Read>(input: &mut R, memory: &mut [u8]) -> io::Result<usize>
+    ensures count { IfOk result (λ count. count ≤ length memory.new) }
+    ensures read { IfOk result (λ count. Consumes (R.remaining input.old) (R.remaining input.new) (take count memory.new)) }
+    ensures end { IfOk result (λ count. count < length memory.new → IsAtEnd (R.remaining input.new)) }
+    ensures some { OnErr result ((count : ℕ) × Consumes (R.remaining input.old) (R.remaining input.new) (take count memory.new)) }
+{
+    let mut filled = 0;
+    while filled < memory.len() {
+        match read_block(input, &mut memory[filled..])? {
+            0 => return Ok(filled),
+            count => filled += count,
+        }
+    }
+    Ok(filled)
+}
+
 // Writes some of the octets: how many. An interrupted write is made again; where a write fails, nothing was written.
 fn write_some<W: Write>(output: &mut W, octets: &[u8]) -> io::Result<usize>
     ensures count { IfOk result (λ count. count ≤ length octets.now) }
