@@ -1,9 +1,9 @@
 -- The answers to lines, in order. Assumes nothing.
-use Rattle.std.specs.Prelude.{◌≡◌, ℕ, List, [], ◌∷◌, ◌++◌, Some, None, string_bytes, codes, OnOk, Option, Result}
+use Rattle.std.specs.Prelude.{◌≡◌, ℕ, ◌⊎◌, List, [], ◌∷◌, ◌++◌, Some, None, codes, Option}
 use Rattle.std.specs.List.{flat_map}
-use Rattle.lines.specs.Cutting.{ended, going_on, kept}
+use Rattle.std.specs.Io.KnownBytes.{Appends, Consumes, IsAtEnd}
+use Rattle.lines.specs.Cutting.{ended, input_lines}
 use Rattle.lines.specs.Spelling.{spelled}
-use Rattle.decode.specs.declared.decoder.Decoder.{Decoder}
 use Rattle.decode.specs.Account.{account}
 
 -- the answer to a line that spells `s`: a refusal where it spells no octets, nothing where it is blank, and else the lines
@@ -20,12 +20,12 @@ line_answer line = spelling_answer (spelled line)
 abbrev pub line_answers : List (List ℕ) → List ℕ
 line_answers lines = flat_map line_answer lines
 
--- `text` was added behind what stood there, where nothing failed
-abbrev pub Adds : {X Y : Type 0} → Result X Y → List ℕ → List ℕ → List ℕ → Type 0
-Adds r was is text = OnOk r (is ≡ was ++ text)
-
--- where a run stands behind `input`, however it came in blocks: the line that goes on is kept, and each line that ended is
--- answered, in what is already written or in the answers that are not
-pub record Stands (input written : List ℕ) (d : Decoder) : Type 0 where
-  pub keeps : kept d.lines ≡ going_on [] input
-  pub tells : written ++ string_bytes d.answers ≡ line_answers (ended [] input)
+-- an input was read so far, and what was written is a beginning of the answers to the lines that ended in that; once the input is at
+-- its end, of those to all of its lines
+pub record AnswersSome (input left output grown : Option (List ℕ)) : Type 0 where
+  pub read : List ℕ
+  pub text : List ℕ
+  pub unwritten : List ℕ
+  pub consumes : Consumes input left read
+  pub appends : Appends output grown text
+  pub due : (text ++ unwritten ≡ line_answers (ended [] read)) ⊎ (IsAtEnd left × (text ++ unwritten ≡ line_answers (input_lines read)))

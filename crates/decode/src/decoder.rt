@@ -1,94 +1,59 @@
-// Cuts input into lines, and answers each.
-ghost use Rattle.std.specs.Prelude.{◌≡◌, ℕ, List, [], ◌++◌, OnOk, string_bytes};
-ghost use Rattle.lines.specs.Cutting.{ended, going_on, input_lines, kept};
-ghost use Rattle.decode.specs.Lines.{Adds, line_answer, line_answers, Stands};
+// Answers lines of hex pairs.
+ghost use Rattle.std.specs.Prelude.{◌≡◌, [], ◌++◌, IfSome, OnErr, OnOk};
+ghost use Rattle.std.specs.Io.KnownBytes.{Appends, IsAtEnd};
+ghost use Rattle.lines.specs.Answering.{text_of};
+ghost use Rattle.lines.specs.Cutting.{input_lines};
+ghost use Rattle.decode.specs.Lines.{AnswersSome, line_answer, line_answers};
 
 use crate::account::Account;
-use lines::{Answerer, HexError, LineCutter, read_octets};
+use lines::{Answers, HexError, LineHandler, answer_lines, read_octets};
 use std::alloc::{AllocError, Global};
+use std::io;
+use std::io::{Read, Write};
 
-// The line that goes on behind the input so far, memory for a line's octets, and the answers that are not yet written.
-// The clauses `run` name the input and what was written of its answers, since neither is kept in memory.
+// Memory for a line's octets.
 #[derive(Drop)]
-pub struct Decoder {
-    lines: LineCutter,
+struct Decoder {
     octets: Vec<u8>,
-    answers: String,
 }
 
-// Adds the answer to a line.
-fn answer(line: &[u8], octets: &mut Vec<u8>, answers: &mut String) -> Result<(), AllocError>
-    ensures { Adds result (string_bytes answers.old) (string_bytes answers.new) (line_answer line.now) }
+// Appends the answer to a line.
+fn answer(line: &[u8], octets: &mut Vec<u8>, answers: &mut Answers) -> Result<(), AllocError>
+    ensures whole { OnOk result (text_of answers.new ≡ text_of answers.old ++ line_answer line.now) }
+    ensures kept { OnErr result (text_of answers.new ≡ text_of answers.old) }
 {
     match read_octets(line, octets) {
         Ok(()) if octets.is_empty() => Ok(()),
-        Ok(()) => writeln!(answers, "{}", Account(octets.as_slice())),
-        Err(HexError::NotOctets) => writeln!(answers, "not octets"),
+        Ok(()) => answers.append_line(Account(octets.as_slice())),
+        Err(HexError::NotOctets) => answers.append_line("not octets"),
         Err(HexError::OutOfMemory) => Err(AllocError),
     }
 }
 
-impl Decoder {
-    pub fn new(heap: Global) -> Decoder
-        ensures kept { kept result.lines ≡ [] }
-        ensures answered { string_bytes result.answers ≡ [] }
-        ensures run { Stands [] [] result }
-    {
-        Decoder {
-            lines: LineCutter::new(heap),
-            octets: Vec::new(heap),
-            answers: String::new(heap),
-        }
+impl LineHandler for Decoder {
+    ghost takes = { λ _ line text _. text ≡ line_answer line };
+
+    ghost ends = { λ _ text _. text ≡ [] };
+
+    fn line(&mut self, line: &[u8], answers: &mut Answers) -> Result<(), AllocError> {
+        answer(line, &mut self.octets, answers)
     }
 
-    // Answers the line that has ended.
-    fn end_line(&mut self) -> Result<(), AllocError>
-        ensures kept { OnOk result (kept self.new.lines ≡ []) }
-        ensures answered { Adds result (string_bytes self.old.answers) (string_bytes self.new.answers) (line_answer (kept self.old.lines)) }
-    {
-        answer(self.lines.line(), &mut self.octets, &mut self.answers)?;
-        self.lines.clear();
+    fn end(&mut self, _answers: &mut Answers) -> Result<(), AllocError> {
         Ok(())
     }
 }
 
-impl Answerer for Decoder {
-    // Answers each line that ends in the block, and keeps the one that goes on. How the input is cut into blocks makes no
-    // difference.
-    fn take_block(&mut self, block: &[u8]) -> Result<(), AllocError>
-        ensures kept { OnOk result (kept self.new.lines ≡ going_on (kept self.old.lines) block.now) }
-        ensures answered { Adds result (string_bytes self.old.answers) (string_bytes self.new.answers) (line_answers (ended (kept self.old.lines) block.now)) }
-        ensures run { OnOk result ((input written : List ℕ) → Stands input written self.old → Stands (input ++ block.now) written self.new) }
-    {
-        let mut rest = block;
-        while let Some(next) = self.lines.take(rest)? {
-            self.end_line()?;
-            rest = next;
-        }
-        Ok(())
-    }
-
-    // Answers the line that the input ends with.
-    fn end(&mut self) -> Result<(), AllocError>
-        ensures kept { OnOk result (kept self.new.lines ≡ []) }
-        ensures answered { Adds result (string_bytes self.old.answers) (string_bytes self.new.answers) (line_answer (kept self.old.lines)) }
-        ensures run { OnOk result ((input written : List ℕ) → Stands input written self.old → written ++ string_bytes self.new.answers ≡ line_answers (input_lines input)) }
-    {
-        self.end_line()
-    }
-
-    fn answers(&self) -> &[u8]
-        ensures { result.now ≡ string_bytes self.now.answers }
-    {
-        self.answers.as_bytes()
-    }
-
-    // Makes room for more answers, once these are written.
-    fn forget_answers(&mut self)
-        ensures kept { self.new.lines ≡ self.old.lines }
-        ensures answered { string_bytes self.new.answers ≡ [] }
-        ensures run { (input written : List ℕ) → Stands input written self.old → Stands input (written ++ string_bytes self.old.answers) self.new }
-    {
-        self.answers.clear();
-    }
+// Answers the lines of an input on an output, to its end: each once, and in order, and nothing else. Where memory is wanting, or a read
+// or a write fails, what was written is a beginning of that.
+pub fn decode<R: Read, W: Write>(heap: Global, input: &mut R, output: &mut W) -> io::Result<()>
+    ensures all { OnOk result (IfSome (R.remaining input.old)
+        (λ octets. Appends (W.contents output.old) (W.contents output.new) (line_answers (input_lines octets)))) }
+    ensures end { OnOk result (IsAtEnd (R.remaining input.new)) }
+    ensures some { OnErr result (AnswersSome (R.remaining input.old) (R.remaining input.new) (W.contents output.old) (W.contents output.new)) }
+{
+    let mut decoder = Decoder {
+        octets: Vec::new(heap),
+    };
+    answer_lines(heap, &mut decoder, input, output)
 }

@@ -4,13 +4,11 @@
 mod account;
 mod decoder;
 
-use decoder::Decoder;
-use lines::answer_input;
+use decoder::decode;
 use std::process::ExitCode;
 
 fn main(rt: HostRuntime) -> ExitCode {
-    let mut decoder = Decoder::new(rt.alloc());
-    match answer_input(&rt, &mut decoder) {
+    match decode(rt.alloc(), &mut rt.stdin(), &mut rt.stdout()) {
         Ok(()) => ExitCode::SUCCESS,
         Err(e) => {
             let _ = eprintln!(rt; "decode: {e}");

@@ -1,6 +1,7 @@
 -- What the lines of a script are answered, and what they do to the exchange that goes on. Assumes nothing.
-use Rattle.std.specs.Prelude.{◌≡◌, ℕ, Bool, List, [], ◌∷◌, ◌++◌, Some, None, string_bytes, codes, Option}
-use Rattle.lines.specs.Cutting.{ended, going_on, input_lines, kept}
+use Rattle.std.specs.Prelude.{◌≡◌, ℕ, ◌⊎◌, Bool, List, [], ◌∷◌, ◌++◌, Some, None, codes, Option}
+use Rattle.std.specs.Io.KnownBytes.{Appends, Consumes, IsAtEnd}
+use Rattle.lines.specs.Cutting.{ended, input_lines}
 use Rattle.line.specs.Outboxes.{waiting}
 use Rattle.tables.specs.LevelWords.{Offers}
 use Rattle.tables.specs.declared.refusal.LevelRefusal.{LevelRefusal}
@@ -10,8 +11,6 @@ use Rattle.script.specs.Levels.{no_level}
 use Rattle.script.specs.Script.{Said, blank, not_understood, level, reported, request, collect, parsed}
 use Rattle.exchange.specs.Services.{account, answer_in, New, request_text, Requested, Stepped}
 use Rattle.exchange.specs.declared.answer.Reply.TheVariants.{LevelRefused, NoLevel, NotUnderstood}
-use Rattle.exchange.specs.declared.exchange.Exchange.{Exchange}
-use Rattle.exchange.specs.declared.runner.Runner.{Runner}
 use Rattle.exchange.specs.declared.service.Service.{Service}
 
 -- a text on a line of its own
@@ -73,21 +72,27 @@ pub data Runs : List (List ℕ) → Option Service → Option Service → List �
   then : (l : List ℕ) (ls : List (List ℕ)) (s s' s'' : Option Service) (text : List ℕ)
       → Does (parsed l) s s' → Runs ls s' s'' text → Runs (l ∷ ls) s s'' (answered (parsed l) s ++ text)
 
--- lines were taken and answered
-pub record Ran (ls : List (List ℕ)) (e e' : Exchange) : Type 0 where
-  pub text : List ℕ
-  pub runs : Runs ls e.service e'.service text
-  pub answers : string_bytes e'.answers ≡ string_bytes e.answers ++ text
-
--- where a run stands behind `input`, however it came in blocks: the line that goes on is kept, and each line that ended is
--- answered, in what is already written or in the answers that are not
-pub record Stands (input written : List ℕ) (r : Runner) : Type 0 where
-  pub keeps : kept r.lines ≡ going_on [] input
-  pub tells : Runs (ended [] input) None r.exchange.service (written ++ string_bytes r.exchange.answers)
-
 -- the output of a script: its lines, answered from the start, and the account of its last exchange
 pub record IsOutput (input output : List ℕ) : Type 0 where
   pub last : Option Service
   pub text : List ℕ
   pub runs : Runs (input_lines input) None last text
   pub ends : output ≡ text ++ last_account last
+
+-- some of the lines of a script, from the first on, were answered so from the start
+pub record BeginsRun (lines : List (List ℕ)) (text : List ℕ) : Type 0 where
+  pub first : List (List ℕ)
+  pub others : List (List ℕ)
+  pub are : lines ≡ first ++ others
+  pub last : Option Service
+  pub runs : Runs first None last text
+
+-- a script was read so far, and what was written is a beginning of the answers to the lines that ended in that; once the script is at
+-- its end, of its output
+pub record BeginsOutput (input left output grown : Option (List ℕ)) : Type 0 where
+  pub read : List ℕ
+  pub text : List ℕ
+  pub unwritten : List ℕ
+  pub consumes : Consumes input left read
+  pub appends : Appends output grown text
+  pub due : BeginsRun (ended [] read) (text ++ unwritten) ⊎ (IsAtEnd left × IsOutput read (text ++ unwritten))

@@ -1,5 +1,6 @@
 // Answers each line of a script.
-ghost use Rattle.std.specs.Prelude.{◌≡◌, [], ◌++◌, None, OnOk, string_bytes};
+ghost use Rattle.std.specs.Prelude.{◌≡◌, ◌++◌, None, OnErr, OnOk};
+ghost use Rattle.lines.specs.Answering.{text_of};
 ghost use Rattle.lines.specs.Spelling.{spelled};
 ghost use Rattle.exchange.specs.Answers.{reply_text};
 ghost use Rattle.exchange.specs.Course.{answered, Does, last_account, line};
@@ -8,48 +9,45 @@ ghost use Rattle.script.specs.Script.{asked, collect, level, parsed, reported};
 use crate::answer::{Collected, Reply};
 use crate::service::Service;
 use controller::{Carrier, Report};
-use lines::{HexError, read_octets};
+use lines::{Answers, HexError, LineHandler, read_octets};
 use operator::Step;
 use script::Line;
 use std::alloc::{AllocError, Global};
 use tables::Level;
 
-// The exchange that goes on, if one has begun; memory for a request's octets; and the answers that are not yet written.
+// The exchange that goes on, if one has begun; and memory for a request's octets.
 #[derive(Drop)]
 pub struct Exchange {
     service: Option<Service>,
     octets: Vec<u8>,
-    answers: String,
+}
+
+// Appends an answer.
+fn say(reply: Reply, answers: &mut Answers) -> Result<(), AllocError>
+    ensures said { OnOk result (text_of answers.new ≡ text_of answers.old ++ line (reply_text reply)) }
+    ensures kept { OnErr result (text_of answers.new ≡ text_of answers.old) }
+{
+    answers.append_line(reply)
 }
 
 impl Exchange {
     // No exchange has begun.
     pub fn new(heap: Global) -> Exchange
-        ensures service { result.service ≡ None }
-        ensures answers { string_bytes result.answers ≡ [] }
+        ensures { result.service ≡ None }
     {
         Exchange {
             service: None,
             octets: Vec::new(heap),
-            answers: String::new(heap),
         }
     }
 
-    // Adds an answer.
-    fn say(&mut self, reply: Reply) -> Result<(), AllocError>
-        ensures said { OnOk result (string_bytes self.new.answers ≡ string_bytes self.old.answers ++ line (reply_text reply)) }
-        ensures service { self.new.service ≡ self.old.service }
-    {
-        writeln!(self.answers, "{reply}")
-    }
-
-    // Adds the account of the exchange that goes on.
-    pub fn account(&mut self) -> Result<(), AllocError>
-        ensures said { OnOk result (string_bytes self.new.answers ≡ string_bytes self.old.answers ++ last_account self.old.service) }
-        ensures service { self.new.service ≡ self.old.service }
+    // Appends the account of the exchange that goes on.
+    fn account(&self, answers: &mut Answers) -> Result<(), AllocError>
+        ensures said { OnOk result (text_of answers.new ≡ text_of answers.old ++ last_account self.now.service) }
+        ensures kept { OnErr result (text_of answers.new ≡ text_of answers.old) }
     {
         match &self.service {
-            Some(service) => writeln!(self.answers, "{service}"),
+            Some(service) => answers.append_line(service),
             None => Ok(()),
         }
     }
@@ -61,35 +59,45 @@ impl Exchange {
         conferences: u8,
         subscribed: bool,
         active: bool,
+        answers: &mut Answers,
     ) -> Result<(), AllocError>
-        ensures said { OnOk result (string_bytes self.new.answers ≡ string_bytes self.old.answers ++ answered (level size conferences subscribed active) self.old.service) }
+        ensures said { OnOk result (text_of answers.new ≡ text_of answers.old ++ answered (level size conferences subscribed active) self.old.service) }
+        ensures kept { OnErr result (text_of answers.new ≡ text_of answers.old) }
         ensures done { OnOk result (Does (level size conferences subscribed active) self.old.service self.new.service) }
     {
         match Level::new(size, conferences, subscribed, active) {
             Ok(level) => {
-                self.account()?;
+                self.account(answers)?;
                 self.service = Some(Service::new(level));
                 Ok(())
             }
-            Err(refusal) => self.say(Reply::LevelRefused(refusal)),
+            Err(refusal) => say(Reply::LevelRefused(refusal), answers),
         }
     }
 
     // Takes a report.
-    fn report(&mut self, report: Report) -> Result<(), AllocError>
-        ensures said { OnOk result (string_bytes self.new.answers ≡ string_bytes self.old.answers ++ answered (reported report) self.old.service) }
+    fn report(&mut self, report: Report, answers: &mut Answers) -> Result<(), AllocError>
+        ensures said { OnOk result (text_of answers.new ≡ text_of answers.old ++ answered (reported report) self.old.service) }
+        ensures kept { OnErr result (text_of answers.new ≡ text_of answers.old) }
         ensures done { OnOk result (Does (reported report) self.old.service self.new.service) }
     {
         let reply = match &mut self.service {
             Some(service) => Reply::Answered(service.take(Step::Reported(report))),
             None => Reply::NoLevel,
         };
-        self.say(reply)
+        say(reply, answers)
     }
 
     // Takes a request, with its octets as they are spelled.
-    fn request(&mut self, away: bool, carrier: Carrier, hex: &[u8]) -> Result<(), AllocError>
-        ensures said { OnOk result (string_bytes self.new.answers ≡ string_bytes self.old.answers ++ answered (asked away carrier (spelled hex.now)) self.old.service) }
+    fn request(
+        &mut self,
+        away: bool,
+        carrier: Carrier,
+        hex: &[u8],
+        answers: &mut Answers,
+    ) -> Result<(), AllocError>
+        ensures said { OnOk result (text_of answers.new ≡ text_of answers.old ++ answered (asked away carrier (spelled hex.now)) self.old.service) }
+        ensures kept { OnErr result (text_of answers.new ≡ text_of answers.old) }
         ensures done { OnOk result (Does (asked away carrier (spelled hex.now)) self.old.service self.new.service) }
     {
         let reply = match (read_octets(hex, &mut self.octets), &mut self.service) {
@@ -98,56 +106,58 @@ impl Exchange {
             (Ok(()), None) => Reply::NoLevel,
             (Ok(()), Some(service)) => service.request(away, carrier, self.octets.as_slice()),
         };
-        self.say(reply)
+        say(reply, answers)
     }
 
     // Hands over what waits.
-    fn collect(&mut self) -> Result<(), AllocError>
-        ensures said { OnOk result (string_bytes self.new.answers ≡ string_bytes self.old.answers ++ answered collect self.old.service) }
+    fn collect(&mut self, answers: &mut Answers) -> Result<(), AllocError>
+        ensures said { OnOk result (text_of answers.new ≡ text_of answers.old ++ answered collect self.old.service) }
+        ensures kept { OnErr result (text_of answers.new ≡ text_of answers.old) }
         ensures done { OnOk result (Does collect self.old.service self.new.service) }
     {
         match &mut self.service {
             Some(service) => {
-                writeln!(self.answers, "{}", Collected(service.outbox()))?;
+                answers.append_line(Collected(service.outbox()))?;
                 let _ = service.take(Step::Collected);
                 Ok(())
             }
-            None => self.say(Reply::NoLevel),
+            None => say(Reply::NoLevel, answers),
         }
     }
 
     // Takes a line.
-    pub fn take_line(&mut self, text: &[u8]) -> Result<(), AllocError>
-        ensures said { OnOk result (string_bytes self.new.answers ≡ string_bytes self.old.answers ++ answered (parsed text.now) self.old.service) }
+    fn take_line(&mut self, text: &[u8], answers: &mut Answers) -> Result<(), AllocError>
+        ensures said { OnOk result (text_of answers.new ≡ text_of answers.old ++ answered (parsed text.now) self.old.service) }
+        ensures kept { OnErr result (text_of answers.new ≡ text_of answers.old) }
         ensures done { OnOk result (Does (parsed text.now) self.old.service self.new.service) }
     {
         match Line::of(text) {
             Line::Blank => Ok(()),
-            Line::NotUnderstood => self.say(Reply::NotUnderstood),
+            Line::NotUnderstood => say(Reply::NotUnderstood, answers),
             Line::Level {
                 size,
                 conferences,
                 subscribed,
                 active,
-            } => self.begin(size, conferences, subscribed, active),
-            Line::Reported(report) => self.report(report),
-            Line::Request { away, carrier, hex } => self.request(away, carrier, hex),
-            Line::Collect => self.collect(),
+            } => self.begin(size, conferences, subscribed, active, answers),
+            Line::Reported(report) => self.report(report, answers),
+            Line::Request { away, carrier, hex } => self.request(away, carrier, hex, answers),
+            Line::Collect => self.collect(answers),
         }
     }
+}
 
-    // The answers that are not yet written.
-    pub fn answers(&self) -> &[u8]
-        ensures { result.now ≡ string_bytes self.now.answers }
-    {
-        self.answers.as_bytes()
+// The end of a script is answered by the account of the last exchange.
+impl LineHandler for Exchange {
+    ghost takes = { λ e text told e'. (told ≡ answered (parsed text) e.service) × Does (parsed text) e.service e'.service };
+
+    ghost ends = { λ e told _. told ≡ last_account e.service };
+
+    fn line(&mut self, line: &[u8], answers: &mut Answers) -> Result<(), AllocError> {
+        self.take_line(line, answers)
     }
 
-    // Makes room for more answers, once these are written.
-    pub fn forget_answers(&mut self)
-        ensures answers { string_bytes self.new.answers ≡ [] }
-        ensures service { self.new.service ≡ self.old.service }
-    {
-        self.answers.clear();
+    fn end(&mut self, answers: &mut Answers) -> Result<(), AllocError> {
+        self.account(answers)
     }
 }

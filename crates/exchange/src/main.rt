@@ -3,16 +3,14 @@
 
 mod answer;
 mod exchange;
-mod runner;
+mod run;
 mod service;
 
-use lines::answer_input;
-use runner::Runner;
+use run::run_script;
 use std::process::ExitCode;
 
 fn main(rt: HostRuntime) -> ExitCode {
-    let mut runner = Runner::new(rt.alloc());
-    match answer_input(&rt, &mut runner) {
+    match run_script(rt.alloc(), &mut rt.stdin(), &mut rt.stdout()) {
         Ok(()) => ExitCode::SUCCESS,
         Err(e) => {
             let _ = eprintln!(rt; "exchange: {e}");

@@ -1,2 +1,4 @@
 pub mod Cutting
 pub mod Reading
+pub mod Streaming
+pub mod Running

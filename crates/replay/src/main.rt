@@ -2,31 +2,21 @@
 #![tactic(auto)]
 
 mod outcome;
+mod replaying;
 
-use outcome::Outcome;
-use reel::MOST_OCTETS;
-use std::io;
-use std::io::{Read, Write};
+use replaying::replay;
 use std::process::ExitCode;
 use tables::Level;
 
-// One octet more than a reel may have: input that is longer is no reel, and is not read further.
-const ENOUGH: u64 = MOST_OCTETS as u64 + 1;
-
-// Replays standard input, and writes what comes of it, and to standard error the fault of an element: whether it is a reel.
-fn run(rt: &HostRuntime) -> io::Result<bool> {
-    let mut octets = Vec::new(rt.alloc());
-    rt.stdin().take(ENOUGH).read_to_end(&mut octets)?;
-    let outcome = Outcome::of(Level::round(true), octets.as_slice());
-    write!(rt.stdout(), "{outcome}")?;
-    if let Some(fault) = outcome.fault() {
-        writeln!(rt.stderr(), "replay: {fault}")?;
-    }
-    Ok(matches!(outcome, Outcome::Replayed(_)))
-}
-
 fn main(rt: HostRuntime) -> ExitCode {
-    match run(&rt) {
+    let level = Level::round(true);
+    match replay(
+        rt.alloc(),
+        level,
+        &mut rt.stdin(),
+        &mut rt.stdout(),
+        &mut rt.stderr(),
+    ) {
         Ok(true) => ExitCode::SUCCESS,
         Ok(false) => ExitCode::FAILURE,
         Err(e) => {
