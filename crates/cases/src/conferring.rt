@@ -5,7 +5,7 @@ mod tests {
     use archive::Replay;
     use controller::{Carrier, Controller, PendingReply, Report};
     use facility::{Request, RequestInvoke};
-    use line::{Line, Outbox, OwnNotice, Standing};
+    use line::{Board, Line, Notice, Outbox, OwnNotice, Standing};
     use operator::{Answer, Step};
     use std::test::Fail;
     use tables::{Level, Mark, Refusal};
@@ -82,6 +82,47 @@ mod tests {
                 heard: -1,
             })
         );
+        Ok(())
+    }
+
+    // Whether two answers are the same, to the octets.
+    fn alike(one: Answer, other: Answer) -> bool {
+        match (one, other) {
+            (Answer::Refused(a), Answer::Refused(b)) => a == b,
+            (Answer::Done { gone, disc }, Answer::Done { gone: g, disc: d }) => {
+                gone == g && disc == d
+            }
+            (
+                Answer::Replied { message, gone },
+                Answer::Replied {
+                    message: m,
+                    gone: g,
+                },
+            ) => { message.octets() == m.octets() && gone == g }
+            _ => false,
+        }
+    }
+
+    // Steps taken in one call on an outbox, on which something was told before, and on a board: the answers and the tables are the
+    // same, and what waits is what these steps told.
+    #[test]
+    fn in_one_call_on_both_lines(rt: HostRuntime) -> Result<(), Fail> {
+        let mut outbox = Outbox::new();
+        let mut board = Board::new();
+        outbox.tell(2, Notice::Isolated)?;
+        let steps = meeting_steps();
+        let delivered = operator::run(rt.alloc(), Level::round(true), &mut outbox, &steps)?;
+        let worked_out = operator::run(rt.alloc(), Level::round(true), &mut board, &steps)?;
+        assert_eq!(rt; delivered.answers.len(), 6);
+        assert_eq!(rt; worked_out.answers.len(), 6);
+        let mut pairs = delivered.answers.iter().zip(worked_out.answers.iter());
+        assert!(rt; pairs.all(|(one, other)| alike(*one, *other)));
+        assert!(rt; *delivered.controller.tables() == *worked_out.controller.tables());
+        assert_eq!(rt; outbox.waiting(), 3);
+        let last = outbox.message(2).ok_or("leg 1 hears of leg 2")?;
+        assert_eq!(rt; *last.octets, [1, 0x6e, 0x27, 1, 0xc4]);
+        assert_eq!(rt; outbox.standing(1), board.standing(1));
+        assert_eq!(rt; outbox.standing(2), board.standing(2));
         Ok(())
     }
 
