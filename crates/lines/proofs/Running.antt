@@ -138,25 +138,25 @@ due_at_end takes ends h m last h' line its answer tail waiting input left output
     }
 
 -- no octet is read where the input is at its end
-end_consumes : (input left left' : Option (List ℕ)) (read more : List ℕ) → Consumes input left read → Consumes left left' more → more ≡ [] → Consumes input left' read
-end_consumes input left left' read more was now is = subst (Consumes input left') (ap (λ l. read ++ l) is ∙ append-nil read) (Consumes-trans _ _ _ _ _ was now)
+end_consumes : (input left left' : Option (List ℕ)) (read : List ℕ) → Consumes input left read → Consumes left left' [] → Consumes input left' read
+end_consumes input left left' read was now = subst (Consumes input left') (append-nil read) (Consumes-trans _ _ _ _ _ was now)
 
 -- all was answered
-pub all_answered : {H : Type 0} (takes : H → List ℕ → List ℕ → H → Type 0) (ends : H → List ℕ → H → Type 0) (h m last h' : H) (line its answer tail waiting waiting' block : List ℕ) (input left left' output grown grown' : Option (List ℕ)) → Stands takes h m line waiting input left output grown
-    → Consumes left left' block → block ≡ [] → IsAtEnd left' → its ≡ line → takes m its answer last → ends last tail h' → waiting' ≡ waiting ++ (answer ++ tail) → Appends grown grown' waiting' → AnswersAll takes ends h h' input left' output grown'
-all_answered takes ends h m last h' line its answer tail waiting waiting' block input left left' output grown grown' s consumes empty end is t e grows appends = record {
+pub all_answered : {H : Type 0} (takes : H → List ℕ → List ℕ → H → Type 0) (ends : H → List ℕ → H → Type 0) (h m last h' : H) (line its answer tail waiting waiting' : List ℕ) (input left left' output grown grown' : Option (List ℕ)) → Stands takes h m line waiting input left output grown
+    → Consumes left left' [] → IsAtEnd left' → its ≡ line → takes m its answer last → ends last tail h' → waiting' ≡ waiting ++ (answer ++ tail) → Appends grown grown' waiting' → AnswersAll takes ends h h' input left' output grown'
+all_answered takes ends h m last h' line its answer tail waiting waiting' input left left' output grown grown' s consumes end is t e grows appends = record {
   read = s.read;
   text = s.text ++ (answer ++ tail);
-  consumes = end_consumes _ _ _ _ _ s.consumes consumes empty;
+  consumes = end_consumes _ _ _ _ s.consumes consumes;
   at_end = end;
   due = due_at_end takes ends h m last h' line its answer tail waiting input left output grown s is t e;
   appends = Appends-trans _ _ _ _ _ s.appends (subst (Appends grown grown') (grows ∙ ap (λ l. l ++ (answer ++ tail)) s.nothing) appends);
 }
 
 -- all was answered, but not all is written
-pub end_cut_short : {H : Type 0} (takes : H → List ℕ → List ℕ → H → Type 0) (ends : H → List ℕ → H → Type 0) (h m last h' : H) (line its answer tail waiting waiting' block : List ℕ) (n : ℕ) (input left left' output grown grown' : Option (List ℕ)) → Stands takes h m line waiting input left output grown
-    → Consumes left left' block → block ≡ [] → IsAtEnd left' → its ≡ line → takes m its answer last → ends last tail h' → waiting' ≡ waiting ++ (answer ++ tail) → Appends grown grown' (take n waiting') → AnswersSome takes ends h input left' output grown'
-end_cut_short takes ends h m last h' line its answer tail waiting waiting' block n input left left' output grown grown' s consumes empty end is t e grows appends =
+pub end_cut_short : {H : Type 0} (takes : H → List ℕ → List ℕ → H → Type 0) (ends : H → List ℕ → H → Type 0) (h m last h' : H) (line its answer tail waiting waiting' : List ℕ) (n : ℕ) (input left left' output grown grown' : Option (List ℕ)) → Stands takes h m line waiting input left output grown
+    → Consumes left left' [] → IsAtEnd left' → its ≡ line → takes m its answer last → ends last tail h' → waiting' ≡ waiting ++ (answer ++ tail) → Appends grown grown' (take n waiting') → AnswersSome takes ends h input left' output grown'
+end_cut_short takes ends h m last h' line its answer tail waiting waiting' n input left left' output grown grown' s consumes end is t e grows appends =
     let more = answer ++ tail in
     let written = subst (λ w. Appends grown grown' (take n w)) (grows ∙ ap (λ l. l ++ more) s.nothing) appends in
     let text = ap (λ l. s.text ++ l) (sym (take-append-drop n more)) ∙ sym (append_assoc s.text (take n more) (drop n more)) in
@@ -164,7 +164,7 @@ end_cut_short takes ends h m last h' line its answer tail waiting waiting' block
       read = s.read;
       text = s.text ++ take n more;
       unwritten = drop n more;
-      consumes = end_consumes _ _ _ _ _ s.consumes consumes empty;
+      consumes = end_consumes _ _ _ _ s.consumes consumes;
       appends = Appends-trans _ _ _ _ _ s.appends written;
       due = inr (end, (h', subst (λ x. IsDue takes ends h s.read x h') text (due_at_end takes ends h m last h' line its answer tail waiting input left output grown s is t e)));
     }

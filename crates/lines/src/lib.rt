@@ -1,9 +1,9 @@
-// Input cut into lines, the octets that a line of hex pairs spells, and standard input answered block by block.
+// Input cut into lines, and answered on an output, line by line; the octets that a line of hex pairs spells; reading and writing octets
+// whole.
 #![tactic(auto)]
 
 mod answers;
 mod cutter;
-mod feed;
 mod handler;
 mod hex;
 mod run;
@@ -11,7 +11,6 @@ mod stream;
 
 pub use answers::Answers;
 pub use cutter::LineCutter;
-pub use feed::{Answerer, answer_input, answer_input_on};
 pub use handler::LineHandler;
 pub use hex::{HexError, is_white, read_octets};
 pub use run::answer_lines;

@@ -1,6 +1,6 @@
 // What is said of a line that is not recorded.
-ghost use Rattle.std.specs.Prelude.{Some};
-ghost use Rattle.std.specs.Fmt.{WritesOnOk};
+ghost use Rattle.std.specs.Prelude.{codes, Some};
+ghost use Rattle.std.specs.Fmt.{option_append, WritesOnOk};
 ghost use Rattle.record.specs.Remarks.{reason_text, remark_text};
 
 use facility::Fault;
@@ -52,5 +52,17 @@ impl fmt::Display for Remark {
 
     fn fmt<W: fmt::Write>(&self, f: &mut fmt::Formatter<W>) -> fmt::Result {
         write!(f, "line {}: {}", self.line, self.reason)
+    }
+}
+
+// What is said, behind the name of the program.
+#[derive(Clone, Copy)]
+pub struct Spoken<T>(pub T);
+
+impl<T: fmt::Display> fmt::Display for Spoken<T> {
+    ghost output = { λ s. option_append (Some (codes "record: ")) (T.output s.0) };
+
+    fn fmt<W: fmt::Write>(&self, f: &mut fmt::Formatter<W>) -> fmt::Result {
+        write!(f, "record: {}", self.0)
     }
 }

@@ -32,13 +32,13 @@ returns-in_err-write_answers-in-None-clause-some g c =
     let end : Consumes (g.R.Read.remaining c.loop.input) (g.R.Read.remaining c.next_block.new.input) [] × IsAtEnd (g.R.Read.remaining c.next_block.new.input) = search rules in
     let (last, text, tail, takes, ends, grows) = c.in_ok-answer_end-in-None.ensures in
     let some = c.in_err-write_answers-in-None.ensures.some in
-    on_err _ (end_cut_short _ _ _ _ _ _ _ _ _ _ _ _ _ some.0 _ _ _ _ _ _ c.loop.invariant.1 end.0 refl end.1 c.line.ensures takes ends grows some.1)
+    on_err _ (end_cut_short _ _ _ _ _ _ _ _ _ _ _ _ some.0 _ _ _ _ _ _ c.loop.invariant.1 end.0 end.1 c.line.ensures takes ends grows some.1)
 
 pub returns-in-None-clause-all : goal.returns-in-None-clause-all
 returns-in-None-clause-all g c =
     let end : Consumes (g.R.Read.remaining c.loop.input) (g.R.Read.remaining c.next_block.new.input) [] × IsAtEnd (g.R.Read.remaining c.next_block.new.input) = search rules in
     let (last, text, tail, takes, ends, grows) = c.in_ok-answer_end-in-None.ensures in
-    all_answered _ _ _ _ _ _ _ _ _ _ _ _ _ _ _ _ _ _ _ c.loop.invariant.1 end.0 refl end.1 c.line.ensures takes ends grows c.in_ok-write_answers-in-None.ensures.all
+    all_answered _ _ _ _ _ _ _ _ _ _ _ _ _ _ _ _ _ _ c.loop.invariant.1 end.0 end.1 c.line.ensures takes ends grows c.in_ok-write_answers-in-None.ensures.all
 
 pub loop-preserved : goal.loop-preserved
 loop-preserved g c =
