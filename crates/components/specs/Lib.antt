@@ -6,5 +6,7 @@ pub mod Cursor
 pub mod Reading
 pub mod Writing
 pub mod Contents
+pub mod Problems
+pub mod MessageTypes
 pub mod Message
 pub mod Wording

@@ -15,29 +15,33 @@ use Rattle.ber.specs.Value.{tag, size}
 abbrev pub bad_component : List ℕ → Option ℕ
 bad_component xs = or_else (bad_value 8 3 xs) (cond (size xs == length xs) None (Some (3 + size xs)))
 
--- the component by its tag, A1 to A4, and its values
-abbrev pub by_tag : ℕ → ℕ → List Part → Result Said Fault
-by_tag t end vs =
-    cond (t == 0xa1) (an_invoke end vs)
-    (cond (t == 0xa2) (a_result end vs)
-    (cond (t == 0xa3) (an_error end vs)
-    (a_reject end vs)))
-
--- the values of a component are read only where all are well structured
-abbrev pub structured : Option ℕ → Result Said Fault → Result Said Fault
-structured (Some place) typed = Err (at Structure place)
-structured None typed = typed
-
--- the tag of each kind: A1 invoke, A2 return result, A3 return error, A4 reject
+-- the tag of each kind of component
 abbrev pub kind_tag : Kind → ℕ
 kind_tag kind.Invoke = 0xa1
 kind_tag kind.ReturnResult = 0xa2
 kind_tag kind.ReturnError = 0xa3
 kind_tag kind.Reject = 0xa4
 
--- one of these
+-- that of a return result
+abbrev pub result_tag : ℕ
+result_tag = kind_tag kind.ReturnResult
+
+-- one of them, which are one behind the other
 abbrev pub is_component_tag : ℕ → Bool
-is_component_tag t = nat_le 0xa1 t && nat_le t 0xa4
+is_component_tag t = nat_le (kind_tag kind.Invoke) t && nat_le t (kind_tag kind.Reject)
+
+-- the component by its tag and its values
+abbrev pub by_tag : ℕ → ℕ → List Part → Result Said Fault
+by_tag t end vs =
+    cond (t == kind_tag kind.Invoke) (an_invoke end vs)
+    (cond (t == kind_tag kind.ReturnResult) (a_result end vs)
+    (cond (t == kind_tag kind.ReturnError) (an_error end vs)
+    (a_reject end vs)))
+
+-- the values of a component are read only where all are well structured
+abbrev pub structured : Option ℕ → Result Said Fault → Result Said Fault
+structured (Some place) typed = Err (at Structure place)
+structured None typed = typed
 
 -- the octets behind the head
 unfoldable pub reading_component : List ℕ → Result Said Fault

@@ -4,11 +4,12 @@ use Rattle.std.specs.Int.{w16}
 use Rattle.std.specs.Option.{option_map}
 use Rattle.components.specs.declared.component.Problem.{Problem}
 use Rattle.components.specs.declared.component.Problem.TheVariants as problem
+use Rattle.components.specs.declared.kind.Kind.TheVariants as kind
 use Rattle.components.specs.declared.write.Refusal.{Refusal}
 use Rattle.components.specs.declared.write.Refusal.TheVariants.{Unreadable, ShortMemory}
 use Rattle.components.specs.Component.{Said, invoke, result, error, reject}
 use Rattle.ber.specs.Integer.{integer_octets}
-use Rattle.components.specs.Reading.{reading}
+use Rattle.components.specs.Reading.{kind_tag, reading}
 use Rattle.ber.specs.Structure.{Part, bad_value}
 use Rattle.ber.specs.Value.{size, tagged}
 
@@ -35,10 +36,10 @@ problem_octets (problem.ReturnError code) = tagged 0x83 (code ∷ [])
 
 -- a component is a value: its tag, and the values it holds
 abbrev pub component_tag : Said → ℕ
-component_tag (invoke id operation argument) = 0xa1
-component_tag (result id answer) = 0xa2
-component_tag (error id code parameter) = 0xa3
-component_tag (reject id why) = 0xa4
+component_tag (invoke id operation argument) = kind_tag kind.Invoke
+component_tag (result id answer) = kind_tag kind.ReturnResult
+component_tag (error id code parameter) = kind_tag kind.ReturnError
+component_tag (reject id why) = kind_tag kind.Reject
 
 abbrev pub component_contents : Said → List ℕ
 component_contents (invoke id operation argument) = integer_octets id ++ (integer_octets operation ++ optional_octets argument)

@@ -9,6 +9,10 @@ ghost use Rattle.components.specs.Message.{message_octets, rejection, reply_octe
 
 use crate::component::Problem;
 use crate::message::{Message, reject_message};
+use crate::problem::GeneralProblem::{
+    BadlyStructuredComponent, MistypedComponent, UnrecognizedComponent,
+};
+use crate::problem::InvokeProblem::{MistypedArgument, UnrecognizedOperation};
 use ber::BadValue;
 
 // The layer of the protocol that is at fault.
@@ -97,17 +101,6 @@ impl From<BadValue> for Fault {
     }
 }
 
-// The codes of the problems that a reply names: general ones, and those of an invoke.
-const UNRECOGNIZED: u8 = 0;
-
-const MISTYPED: u8 = 1;
-
-const BADLY_STRUCTURED: u8 = 2;
-
-const UNRECOGNIZED_OPERATION: u8 = 1;
-
-const MISTYPED_ARGUMENT: u8 = 2;
-
 impl Cause {
     // The two fields of the reject that answers the cause, invoke id and problem; none for the element layer, nor without an
     // invoke.
@@ -115,11 +108,13 @@ impl Cause {
         ensures { option_map (λ p. reject p.0 p.1) result ≡ rejection self }
     {
         match self {
-            Cause::Tag => Some((None, Problem::General(UNRECOGNIZED))),
-            Cause::Structure => Some((None, Problem::General(BADLY_STRUCTURED))),
-            Cause::Mistyped => Some((None, Problem::General(MISTYPED))),
-            Cause::Operation { id } => Some((Some(id), Problem::Invoke(UNRECOGNIZED_OPERATION))),
-            Cause::Argument { id } => Some((Some(id), Problem::Invoke(MISTYPED_ARGUMENT))),
+            Cause::Tag => Some((None, Problem::General(UnrecognizedComponent.number()))),
+            Cause::Structure => Some((None, Problem::General(BadlyStructuredComponent.number()))),
+            Cause::Mistyped => Some((None, Problem::General(MistypedComponent.number()))),
+            Cause::Operation { id } => {
+                Some((Some(id), Problem::Invoke(UnrecognizedOperation.number())))
+            }
+            Cause::Argument { id } => Some((Some(id), Problem::Invoke(MistypedArgument.number()))),
             _ => None,
         }
     }

@@ -19,15 +19,24 @@ pub(crate) enum Kind {
     Reject = 0xa4,
 }
 
-// What kind of component it is, by its tag; a pattern cannot name the number of an enum's case, so the tags stand here again.
+// The tags, for patterns.
+const INVOKE: u8 = Kind::Invoke as u8;
+
+const RETURN_RESULT: u8 = Kind::ReturnResult as u8;
+
+const RETURN_ERROR: u8 = Kind::ReturnError as u8;
+
+const REJECT: u8 = Kind::Reject as u8;
+
+// What kind of component it is, by its tag.
 pub(crate) fn kind_of(component: &[u8]) -> Result<Kind, Fault>
     ensures { MatchResult result (λ kind. (kind_tag kind ≡ tag component.now) × (is_component_tag (tag component.now) ≡ true)) (λ f. (is_component_tag (tag component.now) ≡ false) × (f ≡ at Tag 3)) }
 {
     match component {
-        [0xa1, ..] => Ok(Kind::Invoke),
-        [0xa2, ..] => Ok(Kind::ReturnResult),
-        [0xa3, ..] => Ok(Kind::ReturnError),
-        [0xa4, ..] => Ok(Kind::Reject),
+        [INVOKE, ..] => Ok(Kind::Invoke),
+        [RETURN_RESULT, ..] => Ok(Kind::ReturnResult),
+        [RETURN_ERROR, ..] => Ok(Kind::ReturnError),
+        [REJECT, ..] => Ok(Kind::Reject),
         _ => Err(Cause::Tag.at(3)),
     }
 }

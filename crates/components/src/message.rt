@@ -2,8 +2,10 @@
 ghost use Rattle.std.specs.Prelude.{◌≤◌};
 
 mod reject;
+mod types;
 
 pub(crate) use reject::reject_message;
+pub use types::MessageType;
 
 // Up to 23 octets. An array with a length beside it: a message is `Copy`, which an `ArrayVec` is not, and callers may rely on it.
 #[derive(Clone, Copy)]

@@ -17,7 +17,7 @@ use Rattle.controller.specs.declared.carrier.Carrier.{Carrier}
 use Rattle.controller.specs.declared.carrier.Carrier.TheVariants.{Facility, Setup}
 use Rattle.controller.specs.declared.deed.Deed.{Deed}
 use Rattle.controller.specs.declared.deed.Deed.TheVariants.{BeginBySetup, BeginOnCall, Add, Split, Drop, Remark}
-use Rattle.controller.specs.declared.verdict.InvokeProblem.TheVariants.{UnrecognizedOperation, ResourceLimitation}
+use Rattle.components.specs.declared.problem.InvokeProblem.TheVariants.{UnrecognizedOperation, ResourceLimitation}
 use Rattle.controller.specs.declared.verdict.OperationError.TheVariants.{NotSubscribed, NotAvailable, InvalidCallState, ResourceUnavailable, IllConferenceId, IllPartyId, NumberOfPartiesExceeded, NotActive, NotAllowed}
 use Rattle.controller.specs.declared.verdict.Wrong.{Wrong}
 use Rattle.controller.specs.declared.verdict.Wrong.TheVariants.{Failed, Rejected}

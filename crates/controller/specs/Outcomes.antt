@@ -1,15 +1,21 @@
 -- What the calls of the controller answer, and what they leave of the tables and the line. Assumes nothing.
 use Rattle.std.specs.Prelude.{◌≡◌, ℕ, Ok, Err, Result}
 use Rattle.components.specs.Message.{message_octets}
+use Rattle.facility.specs.declared.request.RequestInvoke.{RequestInvoke}
 use Rattle.line.specs.Meaning.{Same, Standings}
 use Rattle.tables.specs.declared.refusal.Refusal.{Refusal}
 use Rattle.tables.specs.Table.{Table}
 use Rattle.controller.specs.declared.report.Acceptance.{Acceptance}
+use Rattle.controller.specs.declared.pending.PendingReply.{PendingReply}
 use Rattle.controller.specs.declared.pending.Reply.{Reply}
 use Rattle.controller.specs.Replies.{Settled}
 use Rattle.controller.specs.Reports.{Accepted}
 use Rattle.controller.specs.Steps.{Effect}
 use Rattle.controller.specs.Telling.{Delivered}
+
+-- the request of a pending reply, with its invoke id
+abbrev pub request_of : PendingReply → RequestInvoke
+request_of p = record { id = p.id; request = p.request }
 
 -- what an effect is of is done: the tables are those after it, and what it tells was told
 pub record Done (e : Effect) (t' : Table) (s s' : Standings) (room room' : ℕ) : Type 0 where

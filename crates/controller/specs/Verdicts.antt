@@ -1,7 +1,5 @@
--- The number of each error, and of each problem. Assumes nothing.
+-- The number of each error. Assumes nothing.
 use Rattle.std.specs.Prelude.{ℕ}
-use Rattle.controller.specs.declared.verdict.InvokeProblem.{InvokeProblem}
-use Rattle.controller.specs.declared.verdict.InvokeProblem.TheVariants.{UnrecognizedOperation, ResourceLimitation}
 use Rattle.controller.specs.declared.verdict.OperationError.{OperationError}
 use Rattle.controller.specs.declared.verdict.OperationError.TheVariants.{NotSubscribed, NotAvailable, InvalidCallState, ResourceUnavailable, IllConferenceId, IllPartyId, NumberOfPartiesExceeded, NotActive, NotAllowed}
 
@@ -15,7 +13,3 @@ error_number IllPartyId = 29
 error_number NumberOfPartiesExceeded = 30
 error_number NotActive = 31
 error_number NotAllowed = 32
-
-abbrev pub problem_number : InvokeProblem → ℕ
-problem_number UnrecognizedOperation = 1
-problem_number ResourceLimitation = 3

@@ -4,17 +4,23 @@ ghost use Rattle.components.specs.Component.{said};
 ghost use Rattle.components.specs.Message.{message_octets};
 ghost use Rattle.components.specs.Writing.{encoded, Sound};
 
-use components::{Component, Message};
+use components::{Component, Message, MessageType};
 
 // What stands in front of the Facility element: the type octet, and behind it, where a call is cleared, the cause 31, normal,
 // unspecified, of the public network that serves the local user.
-pub(crate) const FACILITY: &[u8] = &[0x62];
+pub(crate) const FACILITY: &[u8] = &[MessageType::Facility as u8];
 
-pub(crate) const CONNECT: &[u8] = &[0x07];
+pub(crate) const CONNECT: &[u8] = &[MessageType::Connect as u8];
 
-pub(crate) const DISCONNECT: &[u8] = &[0x45, 0x08, 0x02, 0x82, 0x9f];
+pub(crate) const DISCONNECT: &[u8] = &[MessageType::Disconnect as u8, 0x08, 0x02, 0x82, 0x9f];
 
-pub(crate) const RELEASE_COMPLETE: &[u8] = &[0x5a, 0x08, 0x02, 0x82, 0x9f];
+pub(crate) const RELEASE_COMPLETE: &[u8] = &[
+    MessageType::ReleaseComplete as u8,
+    0x08,
+    0x02,
+    0x82,
+    0x9f,
+];
 
 // The message of a head and a component, which read back and fit it.
 pub(crate) fn compose(head: &[u8], component: &Component<'_>) -> Message

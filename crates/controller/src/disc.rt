@@ -6,9 +6,7 @@ ghost use Rattle.controller.specs.Discs.{disc_octets};
 
 use crate::composing::{FACILITY, compose};
 use components::{Component, Message, Parameter};
-
-// The operation that tells a served user that a party has left.
-const PARTY_DISC: i16 = 46;
+use facility::Operation;
 
 #[derive(Clone, Copy, PartialEq, Eq, Debug)]
 pub struct Disc {
@@ -25,7 +23,7 @@ impl Disc {
     {
         let component = Component::Invoke {
             id: i16::from(self.id),
-            operation: PARTY_DISC,
+            operation: Operation::PartyDisc.number(),
             argument: Some(Parameter { octets, place: 0 }),
         };
         compose(FACILITY, &component)

@@ -4,13 +4,13 @@ ghost use Rattle.controller.specs.Judging.{add_to, asked_size, begin_by_setup, b
 
 use crate::carrier::Carrier;
 use crate::deed::Deed;
-use crate::verdict::InvokeProblem::{ResourceLimitation, UnrecognizedOperation};
 use crate::verdict::OperationError::{
     IllConferenceId, IllPartyId, InvalidCallState, NotActive, NotAllowed, NotAvailable,
     NotSubscribed, NumberOfPartiesExceeded, ResourceUnavailable,
 };
 use crate::verdict::Verdict;
 use crate::verdict::Wrong::{Failed, Rejected};
+use facility::InvokeProblem::{ResourceLimitation, UnrecognizedOperation};
 use facility::Request;
 use tables::{Call, Conference, Level, Mark, Phase, State, Tables};
 

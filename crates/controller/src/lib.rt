@@ -26,4 +26,4 @@ pub use disc::Disc;
 pub use pending::{PendingReply, Reply};
 pub use report::{Acceptance, Report};
 pub use reporting::is_reference;
-pub use verdict::{InvokeProblem, OperationError, Wrong};
+pub use verdict::{OperationError, Wrong};

@@ -11,15 +11,10 @@ use crate::carrier::Carrier;
 use crate::composing::{CONNECT, DISCONNECT, FACILITY, RELEASE_COMPLETE, compose};
 use crate::deed::Deed;
 use crate::judging::in_use;
-use crate::verdict::{InvokeProblem, Verdict, Wrong};
+use crate::verdict::{Verdict, Wrong};
 use components::{Answer, Component, Message, Parameter, Problem};
-use facility::RequestInvoke;
+use facility::{InvokeProblem, Operation, RequestInvoke};
 use tables::Tables;
-
-// The operations whose results have a value.
-const BEGIN: i16 = 40;
-
-const ADD: i16 = 41;
 
 // The ids that a granted request gets, as a value: INTEGERs of one octet, those of a begin in a SEQUENCE.
 #[derive(Clone, Copy)]
@@ -34,14 +29,14 @@ impl IdsGiven {
     fn answer(&self) -> Answer<'_>
         ensures { answered result ≡ answer_of self.now }
     {
-        let (operation, octets): (i16, &[u8]) = match self {
-            IdsGiven::Conference(octets) => (BEGIN, octets),
-            IdsGiven::ConferenceAndParty(octets) => (BEGIN, octets),
-            IdsGiven::Party(octets) => (ADD, octets),
+        let (operation, octets): (Operation, &[u8]) = match self {
+            IdsGiven::Conference(octets) => (Operation::Begin, octets),
+            IdsGiven::ConferenceAndParty(octets) => (Operation::Begin, octets),
+            IdsGiven::Party(octets) => (Operation::Add, octets),
         };
         let parameter = Parameter { octets, place: 0 };
         Answer {
-            operation,
+            operation: operation.number(),
             parameter,
         }
     }

@@ -1,8 +1,9 @@
 // What becomes of a request: it is granted, and comes to a deed; or one error or one problem says what is wrong.
 ghost use Rattle.std.specs.Prelude.{◌≡◌};
-ghost use Rattle.controller.specs.Verdicts.{error_number, problem_number};
+ghost use Rattle.controller.specs.Verdicts.{error_number};
 
 use crate::deed::Deed;
+use facility::InvokeProblem;
 
 // The return errors of the conference operations, each with its number.
 #[derive(Clone, Copy, PartialEq, Eq, Debug)]
@@ -22,22 +23,6 @@ impl OperationError {
     // The number that a return error carries.
     pub(crate) fn number(self) -> u8
         ensures { result ≡ error_number self }
-    {
-        self as u8
-    }
-}
-
-// The invoke problems of a reject, each with its number.
-#[derive(Clone, Copy, PartialEq, Eq, Debug)]
-pub enum InvokeProblem {
-    UnrecognizedOperation = 1,
-    ResourceLimitation = 3,
-}
-
-impl InvokeProblem {
-    // The number that a reject carries.
-    pub(crate) fn number(self) -> u8
-        ensures { result ≡ problem_number self }
     {
         self as u8
     }

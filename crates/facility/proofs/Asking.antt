@@ -4,8 +4,8 @@ use Rattle.std.specs.Option.{option_map}
 use Rattle.std.proofs.lemmas.List.{take-append-drop}
 use Rattle.std.proofs.lemmas.Bool.Decides.{nat_tests}
 use Rattle.components.specs.declared.fault.Fault.{Fault}
-use Rattle.facility.specs.declared.request.Operation.{Operation}
-use Rattle.facility.specs.declared.request.Operation.TheVariants as operation
+use Rattle.facility.specs.declared.operation.Operation.{Operation}
+use Rattle.facility.specs.declared.operation.Operation.TheVariants as operation
 use Rattle.facility.specs.declared.request.Request.{Request}
 use Rattle.facility.specs.declared.request.RequestInvoke.{RequestInvoke}
 use Rattle.components.specs.declared.write.Refusal.{Refusal}
@@ -94,6 +94,7 @@ asks_were (pos n) operation.Split (Some xs) r op_is r_is = grind (arith, nat_tes
 asks_were (pos n) operation.Drop (Some xs) r op_is r_is = grind (arith, nat_tests, number_was xs)
 asks_were (pos n) operation.Isolate (Some xs) r op_is r_is = grind (arith, nat_tests, number_was xs)
 asks_were (pos n) operation.Reattach (Some xs) r op_is r_is = grind (arith, nat_tests, number_was xs)
+asks_were (pos n) operation.PartyDisc (Some xs) r op_is r_is = cc
 
 -- a parameter has the octets of its part
 same_octets : (o : Option Part) (r : Request) → octets_in o ≡ request_argument r → optional_octets o ≡ optional_octets (argument_part (request_argument r))

@@ -1,3 +1,4 @@
+pub mod Operations
 pub mod Requests
 pub mod Wording
 pub mod Writing

@@ -1,14 +1,16 @@
 -- The conference requests: which invokes they are. Assumes nothing.
 use Rattle.std.specs.Prelude.{ℕ, ◌+◌, ◌≤◌, cond, ◌&&◌, List, [], ◌∷◌, ◌++◌, length, take, drop, ℤ, pos, negsuc, Some, None, Ok, Err, Option, Result, FitsSigned, ◌==◌, nat_le, slice_index}
 use Rattle.std.specs.Int.{w16}
+use Rattle.std.specs.List.{find}
 use Rattle.std.specs.Option.{option_map, option_zip}
 use Rattle.components.specs.declared.fault.Cause.TheVariants as cause
 use Rattle.components.specs.declared.fault.Fault.{Fault}
-use Rattle.facility.specs.declared.request.Operation.{Operation}
-use Rattle.facility.specs.declared.request.Operation.TheVariants as operation
+use Rattle.facility.specs.declared.operation.Operation.{Operation}
+use Rattle.facility.specs.declared.operation.Operation.TheVariants as operation
 use Rattle.facility.specs.declared.request.Request.{Request}
 use Rattle.facility.specs.declared.request.Request.TheVariants as request
 use Rattle.facility.specs.declared.request.RequestInvoke.{RequestInvoke}
+use Rattle.facility.specs.Operations.{operation_number, requested_operations}
 use Rattle.components.specs.Component.{Said, invoke}
 use Rattle.components.specs.Faults.{at}
 use Rattle.ber.specs.Integer.{integer_octets}
@@ -29,20 +31,13 @@ a_number xs = cond (is_tagged 2 xs && (length xs == 3 && nat_le (slice_index xs 
 abbrev pub two_numbers : List ℕ → Option (ℕ × ℕ)
 two_numbers xs = cond (is_tagged 0x30 xs && length xs == 8) (option_zip (a_number (take 3 (drop 2 xs))) (a_number (drop 3 (drop 2 xs)))) None
 
--- the operations by their codes
+-- the operation of a request, by its number
 abbrev pub operation_of : ℤ → Option Operation
 operation_of (negsuc n) = None
-operation_of (pos n) =
-    cond (n == 40) (Some operation.Begin)
-    (cond (n == 41) (Some operation.Add)
-    (cond (n == 42) (Some operation.Split)
-    (cond (n == 43) (Some operation.Drop)
-    (cond (n == 44) (Some operation.Isolate)
-    (cond (n == 45) (Some operation.Reattach)
-    None)))))
+operation_of (pos n) = find (λ o. n == operation_number o) requested_operations
 
 -- what an operation asks with its argument: a size that may be absent, a ConferenceId, both ids, or a PartyId.
--- None: the argument is wrong.
+-- None: the argument is wrong; PartyDISC asks nothing.
 abbrev pub asks : Operation → Option (List ℕ) → Option Request
 asks operation.Begin None = Some (request.Begin None)
 asks operation.Begin (Some xs) = option_map (λ n. request.Begin (Some n)) (a_number xs)
@@ -51,6 +46,7 @@ asks operation.Split (Some xs) = option_map (λ p. request.Split p.0 p.1) (two_n
 asks operation.Drop (Some xs) = option_map request.Drop (a_number xs)
 asks operation.Isolate (Some xs) = option_map request.Isolate (a_number xs)
 asks operation.Reattach (Some xs) = option_map request.Reattach (a_number xs)
+asks operation.PartyDisc (Some xs) = None
 asks _ None = None
 
 -- the place of an argument, or of the component's end where it is absent
@@ -80,14 +76,17 @@ requested end _ = Err (at cause.NoInvoke 3)
 abbrev pub requesting : List ℕ → Result RequestInvoke Fault
 requesting xs = and_then (reading xs) (requested (length xs))
 
--- the other way: the code and the argument of each request
+-- the other way: the operation and the argument of each request
+abbrev pub operation_asked : Request → Operation
+operation_asked (request.Begin size) = operation.Begin
+operation_asked (request.Add conference) = operation.Add
+operation_asked (request.Split conference party) = operation.Split
+operation_asked (request.Drop party) = operation.Drop
+operation_asked (request.Isolate party) = operation.Isolate
+operation_asked (request.Reattach party) = operation.Reattach
+
 abbrev pub request_code : Request → ℕ
-request_code (request.Begin size) = 40
-request_code (request.Add conference) = 41
-request_code (request.Split conference party) = 42
-request_code (request.Drop party) = 43
-request_code (request.Isolate party) = 44
-request_code (request.Reattach party) = 45
+request_code r = operation_number (operation_asked r)
 
 abbrev pub request_argument : Request → Option (List ℕ)
 request_argument (request.Begin size) = option_map number_octets size

@@ -4,13 +4,15 @@
 // user of requests needs is passed on.
 #![tactic(auto)]
 
+mod operation;
 mod request;
 mod text;
 mod write;
 
 pub use components::{
-    Answer, Cause, Component, Fault, Layer, Message, Pairs, Parameter, Problem, Refusal,
-    read_element,
+    Answer, Cause, Component, Fault, GeneralProblem, InvokeProblem, Layer, Message, MessageType,
+    Pairs, Parameter, Problem, Refusal, read_element,
 };
+pub use operation::Operation;
 pub use request::{Request, RequestInvoke, read_request};
 pub use text::Replied;

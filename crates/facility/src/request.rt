@@ -1,11 +1,11 @@
 // The conference requests: six operations, each invoked with its own argument.
 ghost use Rattle.std.specs.Prelude.{◌≡◌, length, IfOk, Ok};
 ghost use Rattle.std.specs.Option.{option_map};
-ghost use Rattle.std.specs.Result.{result_ok};
 ghost use Rattle.components.specs.Component.{part, said};
 ghost use Rattle.facility.specs.Requests.{a_number, two_numbers, operation_of, asks, octets_in, requested, requesting, request_octets, Lawful};
 ghost use Rattle.components.specs.Writing.{encoded};
 
+use crate::operation::Operation;
 use ber::integer_size;
 use components::{Cause, Component, Fault, Parameter, read_element};
 
@@ -27,36 +27,31 @@ pub struct RequestInvoke {
     pub request: Request,
 }
 
-// The operation alone, as its code names it.
-#[derive(Clone, Copy)]
-enum Operation {
-    Begin,
-    Add,
-    Split,
-    Drop,
-    Isolate,
-    Reattach,
-}
+// The numbers of the operations that requests invoke.
+const BEGIN: i16 = Operation::Begin as i16;
 
-// The code of no operation.
-#[derive(Clone, Copy)]
-struct UnknownOperation;
+const ADD: i16 = Operation::Add as i16;
 
-impl TryFrom<i16> for Operation {
-    type Error = UnknownOperation;
+const SPLIT: i16 = Operation::Split as i16;
 
-    ghost try_from_gives = { λ code r. result_ok r ≡ operation_of code };
+const DROP: i16 = Operation::Drop as i16;
 
-    fn try_from(code: i16) -> Result<Self, UnknownOperation> {
-        match code {
-            40 => Ok(Operation::Begin),
-            41 => Ok(Operation::Add),
-            42 => Ok(Operation::Split),
-            43 => Ok(Operation::Drop),
-            44 => Ok(Operation::Isolate),
-            45 => Ok(Operation::Reattach),
-            _ => Err(UnknownOperation),
-        }
+const ISOLATE: i16 = Operation::Isolate as i16;
+
+const REATTACH: i16 = Operation::Reattach as i16;
+
+// The operation of a request, by its number.
+fn operation_of(code: i16) -> Option<Operation>
+    ensures { result ≡ operation_of code }
+{
+    match code {
+        BEGIN => Some(Operation::Begin),
+        ADD => Some(Operation::Add),
+        SPLIT => Some(Operation::Split),
+        DROP => Some(Operation::Drop),
+        ISOLATE => Some(Operation::Isolate),
+        REATTACH => Some(Operation::Reattach),
+        _ => None,
     }
 }
 
@@ -78,6 +73,7 @@ impl Operation {
             Operation::Drop => number(octets).map(|party| Request::Drop { party }),
             Operation::Isolate => number(octets).map(|party| Request::Isolate { party }),
             Operation::Reattach => number(octets).map(|party| Request::Reattach { party }),
+            Operation::PartyDisc => None,
         }
     }
 }
@@ -118,7 +114,7 @@ fn request_in(component: Component<'_>, end: usize) -> Result<RequestInvoke, Fau
         return Err(Cause::NoInvoke.at(3));
     };
     let unknown = Cause::Operation { id }.at(5 + integer_size(id));
-    let operation = Operation::try_from(operation).map_err(|_| unknown)?;
+    let operation = operation_of(operation).ok_or(unknown)?;
     let wrong = Cause::Argument { id }.at(argument.map_or(end, |value| value.place));
     let request = operation.asked(argument).ok_or(wrong)?;
     Ok(RequestInvoke { id, request })

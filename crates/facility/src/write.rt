@@ -1,25 +1,26 @@
 // Writing the element of a request.
-ghost use Rattle.std.specs.Prelude.{◌≡◌, ◌↔◌, IsTrue, pos};
+ghost use Rattle.std.specs.Prelude.{◌≡◌, ◌↔◌, IsTrue};
 ghost use Rattle.std.specs.Option.{option_map};
 ghost use Rattle.components.specs.Component.{said};
-ghost use Rattle.facility.specs.Requests.{request_argument, request_code, request_said, InRange};
+ghost use Rattle.facility.specs.Requests.{operation_asked, request_argument, request_said, InRange};
 ghost use Rattle.facility.specs.Writing.{Wrote};
 
+use crate::operation::Operation;
 use crate::request::{Request, RequestInvoke};
 use components::{Component, Parameter, Refusal};
 
 impl Request {
-    // The code of the operation.
-    fn code(self) -> i16
-        ensures { result ≡ pos (request_code self) }
+    // The operation that the request invokes.
+    fn operation(self) -> Operation
+        ensures { result ≡ operation_asked self }
     {
         match self {
-            Request::Begin { .. } => 40,
-            Request::Add { .. } => 41,
-            Request::Split { .. } => 42,
-            Request::Drop { .. } => 43,
-            Request::Isolate { .. } => 44,
-            Request::Reattach { .. } => 45,
+            Request::Begin { .. } => Operation::Begin,
+            Request::Add { .. } => Operation::Add,
+            Request::Split { .. } => Operation::Split,
+            Request::Drop { .. } => Operation::Drop,
+            Request::Isolate { .. } => Operation::Isolate,
+            Request::Reattach { .. } => Operation::Reattach,
         }
     }
 
@@ -46,7 +47,7 @@ impl RequestInvoke {
     {
         Component::Invoke {
             id: self.id,
-            operation: self.request.code(),
+            operation: self.request.operation().number(),
             argument: argument.map(|octets| Parameter { octets, place: 0 }),
         }
     }

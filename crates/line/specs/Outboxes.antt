@@ -9,9 +9,16 @@ use Rattle.line.specs.Meaning.{Same}
 use Rattle.line.specs.Order.{Telling}
 use Rattle.line.specs.Notices.{code_of}
 
+-- the message type NOTIFY, and the Notification indicator, an information element of one octet
+abbrev pub notify_type : ℕ
+notify_type = 0x6e
+
+abbrev pub notification_indicator : ℕ
+notification_indicator = 0x27
+
 -- the five octets of a message: the leg, NOTIFY, the Notification indicator with its length, the code
 abbrev pub notify : ℕ → Notice → List ℕ
-notify leg notice = leg ∷ 0x6e ∷ 0x27 ∷ 0x01 ∷ code_of notice ∷ []
+notify leg notice = leg ∷ notify_type ∷ notification_indicator ∷ 1 ∷ code_of notice ∷ []
 
 -- the messages of what is told, in its order
 abbrev pub messages : List Telling → List (List ℕ)

@@ -1,5 +1,8 @@
 -- The roster: who is where, written from the steps and their answers alone. Assumes nothing.
 use Rattle.std.specs.Prelude.{ℕ, ◌+◌, ◌-◌, zero, suc, Bool, true, false, cond, not, ◌&&◌, ◌||◌, ◌==◌, List, length, Some, None, Option, slice_index}
+use Rattle.components.specs.declared.message.types.MessageType.TheVariants.{Disconnect}
+use Rattle.components.specs.MessageTypes.{type_octet}
+use Rattle.components.specs.Reading.{result_tag}
 use Rattle.facility.specs.declared.request.Request.{Request}
 use Rattle.facility.specs.declared.request.Request.TheVariants as request
 use Rattle.facility.specs.declared.request.RequestInvoke.{RequestInvoke}
@@ -129,7 +132,7 @@ from_last n xs = slice_index xs (length xs - (n + 1))
 
 -- a message body is DISCONNECT, or its component is a return result: the request was accepted
 abbrev pub accepts : List ℕ → Bool
-accepts body = slice_index body 0 == 0x45 || slice_index body 4 == 0xa2
+accepts body = slice_index body 0 == type_octet Disconnect || slice_index body 4 == result_tag
 
 -- the ConferenceId and the PartyId that an accepted request is answered: the last number is the one or the other, or where there
 -- are both, the PartyId

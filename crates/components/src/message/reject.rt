@@ -2,14 +2,15 @@
 ghost use Rattle.std.specs.Prelude.{◌≡◌, ◌∷◌};
 ghost use Rattle.components.specs.Component.{reject, said};
 ghost use Rattle.components.specs.Message.{Composed, message_octets};
+ghost use Rattle.components.specs.MessageTypes.{type_octet};
 ghost use Rattle.components.specs.Writing.{encoded, Sized};
 
-use super::Message;
+use super::{Message, MessageType};
 use crate::component::{Component, Problem};
 use crate::write::Refusal;
 
-// The type octet of FACILITY.
-const FACILITY: u8 = 0x62;
+// What a FACILITY begins with.
+const FACILITY: u8 = MessageType::Facility as u8;
 
 impl Message {
     // The message of a head, its type octet and any elements that come first, and of the element that holds a component. A
@@ -39,7 +40,7 @@ impl Message {
 
 // FACILITY with a reject.
 pub(crate) fn reject_message(id: Option<i16>, problem: Problem) -> Message
-    ensures { message_octets result ≡ 0x62 ∷ encoded (reject id problem) }
+    ensures { message_octets result ≡ type_octet MessageType.Facility ∷ encoded (reject id problem) }
 {
     let component = Component::Reject { id, problem };
     let Ok(message) = Message::new(&[FACILITY], &component) else {
