@@ -28,4 +28,5 @@ pub record AnswersSome (input left output grown : Option (List ℕ)) : Type 0 wh
   pub unwritten : List ℕ
   pub consumes : Consumes input left read
   pub appends : Appends output grown text
-  pub due : (text ++ unwritten ≡ line_answers (ended [] read)) ⊎ (IsAtEnd left × (text ++ unwritten ≡ line_answers (input_lines read)))
+  pub due : (text ++ unwritten ≡ line_answers (ended [] read))
+      ⊎ (IsAtEnd left × (text ++ unwritten ≡ line_answers (input_lines read)))

@@ -1,7 +1,7 @@
 // Answers lines of hex pairs.
-ghost use Rattle.std.specs.Prelude.{◌≡◌, [], ◌++◌, IfSome, OnErr, OnOk};
+ghost use Rattle.std.specs.Prelude.{◌≡◌, [], IfSome, OnErr, OnOk};
 ghost use Rattle.std.specs.Io.KnownBytes.{Appends, IsAtEnd};
-ghost use Rattle.lines.specs.Answering.{text_of};
+ghost use Rattle.lines.specs.Answering.{Says, SaysNothing};
 ghost use Rattle.lines.specs.Cutting.{input_lines};
 ghost use Rattle.decode.specs.Lines.{AnswersSome, line_answer, line_answers};
 
@@ -19,8 +19,8 @@ struct Decoder {
 
 // Appends the answer to a line.
 fn answer(line: &[u8], octets: &mut Vec<u8>, answers: &mut Answers) -> Result<(), AllocError>
-    ensures whole { OnOk result (text_of answers.new ≡ text_of answers.old ++ line_answer line.now) }
-    ensures kept { OnErr result (text_of answers.new ≡ text_of answers.old) }
+    ensures said { Says result answers.old answers.new (line_answer line.now) }
+    ensures kept { SaysNothing result answers.old answers.new }
 {
     match read_octets(line, octets) {
         Ok(()) if octets.is_empty() => Ok(()),
@@ -44,13 +44,14 @@ impl LineHandler for Decoder {
     }
 }
 
-// Answers the lines of an input on an output, to its end: each once, and in order, and nothing else. Where memory is wanting, or a read
-// or a write fails, what was written is a beginning of that.
+// Answers the lines of an input on an output, to its end: each once, and in order, and nothing else. Where memory is wanting, or a
+// read or a write fails, what was written is a beginning of that.
 pub fn decode<R: Read, W: Write>(heap: Global, input: &mut R, output: &mut W) -> io::Result<()>
     ensures all { OnOk result (IfSome (R.remaining input.old)
         (λ octets. Appends (W.contents output.old) (W.contents output.new) (line_answers (input_lines octets)))) }
     ensures end { OnOk result (IsAtEnd (R.remaining input.new)) }
-    ensures some { OnErr result (AnswersSome (R.remaining input.old) (R.remaining input.new) (W.contents output.old) (W.contents output.new)) }
+    ensures some { OnErr result (AnswersSome (R.remaining input.old) (R.remaining input.new)
+        (W.contents output.old) (W.contents output.new)) }
 {
     let mut decoder = Decoder {
         octets: Vec::new(heap),

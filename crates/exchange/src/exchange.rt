@@ -1,6 +1,6 @@
 // Answers each line of a script.
-ghost use Rattle.std.specs.Prelude.{◌≡◌, ◌++◌, None, OnErr, OnOk};
-ghost use Rattle.lines.specs.Answering.{text_of};
+ghost use Rattle.std.specs.Prelude.{◌≡◌, None, OnOk};
+ghost use Rattle.lines.specs.Answering.{Says, SaysNothing};
 ghost use Rattle.lines.specs.Spelling.{spelled};
 ghost use Rattle.exchange.specs.Answers.{reply_text};
 ghost use Rattle.exchange.specs.Course.{answered, Does, last_account, line};
@@ -24,8 +24,8 @@ pub struct Exchange {
 
 // Appends an answer.
 fn say(reply: Reply, answers: &mut Answers) -> Result<(), AllocError>
-    ensures said { OnOk result (text_of answers.new ≡ text_of answers.old ++ line (reply_text reply)) }
-    ensures kept { OnErr result (text_of answers.new ≡ text_of answers.old) }
+    ensures said { Says result answers.old answers.new (line (reply_text reply)) }
+    ensures kept { SaysNothing result answers.old answers.new }
 {
     answers.append_line(reply)
 }
@@ -43,8 +43,8 @@ impl Exchange {
 
     // Appends the account of the exchange that goes on.
     fn account(&self, answers: &mut Answers) -> Result<(), AllocError>
-        ensures said { OnOk result (text_of answers.new ≡ text_of answers.old ++ last_account self.now.service) }
-        ensures kept { OnErr result (text_of answers.new ≡ text_of answers.old) }
+        ensures said { Says result answers.old answers.new (last_account self.now.service) }
+        ensures kept { SaysNothing result answers.old answers.new }
     {
         match &self.service {
             Some(service) => answers.append_line(service),
@@ -61,8 +61,9 @@ impl Exchange {
         active: bool,
         answers: &mut Answers,
     ) -> Result<(), AllocError>
-        ensures said { OnOk result (text_of answers.new ≡ text_of answers.old ++ answered (level size conferences subscribed active) self.old.service) }
-        ensures kept { OnErr result (text_of answers.new ≡ text_of answers.old) }
+        ensures said { Says result answers.old answers.new
+            (answered (level size conferences subscribed active) self.old.service) }
+        ensures kept { SaysNothing result answers.old answers.new }
         ensures done { OnOk result (Does (level size conferences subscribed active) self.old.service self.new.service) }
     {
         match Level::new(size, conferences, subscribed, active) {
@@ -77,8 +78,8 @@ impl Exchange {
 
     // Takes a report.
     fn report(&mut self, report: Report, answers: &mut Answers) -> Result<(), AllocError>
-        ensures said { OnOk result (text_of answers.new ≡ text_of answers.old ++ answered (reported report) self.old.service) }
-        ensures kept { OnErr result (text_of answers.new ≡ text_of answers.old) }
+        ensures said { Says result answers.old answers.new (answered (reported report) self.old.service) }
+        ensures kept { SaysNothing result answers.old answers.new }
         ensures done { OnOk result (Does (reported report) self.old.service self.new.service) }
     {
         let reply = match &mut self.service {
@@ -96,8 +97,9 @@ impl Exchange {
         hex: &[u8],
         answers: &mut Answers,
     ) -> Result<(), AllocError>
-        ensures said { OnOk result (text_of answers.new ≡ text_of answers.old ++ answered (asked away carrier (spelled hex.now)) self.old.service) }
-        ensures kept { OnErr result (text_of answers.new ≡ text_of answers.old) }
+        ensures said { Says result answers.old answers.new
+            (answered (asked away carrier (spelled hex.now)) self.old.service) }
+        ensures kept { SaysNothing result answers.old answers.new }
         ensures done { OnOk result (Does (asked away carrier (spelled hex.now)) self.old.service self.new.service) }
     {
         let reply = match (read_octets(hex, &mut self.octets), &mut self.service) {
@@ -111,8 +113,8 @@ impl Exchange {
 
     // Hands over what waits.
     fn collect(&mut self, answers: &mut Answers) -> Result<(), AllocError>
-        ensures said { OnOk result (text_of answers.new ≡ text_of answers.old ++ answered collect self.old.service) }
-        ensures kept { OnErr result (text_of answers.new ≡ text_of answers.old) }
+        ensures said { Says result answers.old answers.new (answered collect self.old.service) }
+        ensures kept { SaysNothing result answers.old answers.new }
         ensures done { OnOk result (Does collect self.old.service self.new.service) }
     {
         match &mut self.service {
@@ -127,8 +129,8 @@ impl Exchange {
 
     // Takes a line.
     fn take_line(&mut self, text: &[u8], answers: &mut Answers) -> Result<(), AllocError>
-        ensures said { OnOk result (text_of answers.new ≡ text_of answers.old ++ answered (parsed text.now) self.old.service) }
-        ensures kept { OnErr result (text_of answers.new ≡ text_of answers.old) }
+        ensures said { Says result answers.old answers.new (answered (parsed text.now) self.old.service) }
+        ensures kept { SaysNothing result answers.old answers.new }
         ensures done { OnOk result (Does (parsed text.now) self.old.service self.new.service) }
     {
         match Line::of(text) {
@@ -149,7 +151,8 @@ impl Exchange {
 
 // The end of a script is answered by the account of the last exchange.
 impl LineHandler for Exchange {
-    ghost takes = { λ e text told e'. (told ≡ answered (parsed text) e.service) × Does (parsed text) e.service e'.service };
+    ghost takes = { λ e text told e'.
+        (told ≡ answered (parsed text) e.service) × Does (parsed text) e.service e'.service };
 
     ghost ends = { λ e told _. told ≡ last_account e.service };
 

@@ -33,7 +33,8 @@ impl Answers {
 
     // Appends a line, as it prints, and its line feed. Where memory is wanting, nothing is appended.
     pub fn append_line<D: Display + Drop>(&mut self, line: D) -> Result<(), AllocError>
-        ensures whole { OnOk result (IfSome (with_newline (D.output line)) (λ text. text_of self.new ≡ text_of self.old ++ text)) }
+        ensures whole { OnOk result (IfSome (with_newline (D.output line))
+            (λ text. text_of self.new ≡ text_of self.old ++ text)) }
         ensures kept { OnErr result (text_of self.new ≡ text_of self.old) }
     {
         self.line.clear();

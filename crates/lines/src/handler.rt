@@ -15,9 +15,11 @@ pub trait LineHandler {
 
     // Takes a line, and appends what it is answered.
     fn line(&mut self, line: &[u8], answers: &mut Answers) -> Result<(), AllocError>
-        ensures { AppendsSome result (text_of answers.old) (text_of answers.new) (λ text. takes self.old line.now text self.new) };
+        ensures { AppendsSome result (text_of answers.old) (text_of answers.new)
+            (λ text. takes self.old line.now text self.new) };
 
     // Takes the end of the input, and appends what is answered to that.
     fn end(&mut self, answers: &mut Answers) -> Result<(), AllocError>
-        ensures { AppendsSome result (text_of answers.old) (text_of answers.new) (λ text. ends self.old text self.new) };
+        ensures { AppendsSome result (text_of answers.old) (text_of answers.new)
+            (λ text. ends self.old text self.new) };
 }

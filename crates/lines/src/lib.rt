@@ -1,5 +1,5 @@
-// Input cut into lines, and answered on an output, line by line; the octets that a line of hex pairs spells; reading and writing octets
-// whole.
+// Input cut into lines, and answered on an output, line by line; the octets that a line of hex pairs spells; reading blocks of
+// octets, and writing octets whole.
 #![tactic(auto)]
 
 mod answers;

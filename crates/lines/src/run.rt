@@ -22,7 +22,8 @@ fn answer_block<H: LineHandler>(
     answers: &mut Answers,
 ) -> Result<(), AllocError>
     ensures kept { OnOk result (kept cutter.new ≡ going_on (kept cutter.old) block.now) }
-    ensures answered { OnOk result ((text : List ℕ) × AreAnswered H.takes handler.old (ended (kept cutter.old) block.now) text handler.new
+    ensures answered { OnOk result ((text : List ℕ)
+        × AreAnswered H.takes handler.old (ended (kept cutter.old) block.now) text handler.new
         × (text_of answers.new ≡ text_of answers.old ++ text)) }
 {
     let mut rest = block;
@@ -37,7 +38,8 @@ fn answer_block<H: LineHandler>(
 // Writes the answers, and makes room for more.
 fn write_answers<W: Write>(output: &mut W, answers: &mut Answers) -> io::Result<()>
     ensures all { OnOk result (Appends (W.contents output.old) (W.contents output.new) (text_of answers.old)) }
-    ensures some { OnErr result ((count : ℕ) × Appends (W.contents output.old) (W.contents output.new) (take count (text_of answers.old))) }
+    ensures some { OnErr result ((count : ℕ)
+        × Appends (W.contents output.old) (W.contents output.new) (take count (text_of answers.old))) }
     ensures cleared { OnOk result (text_of answers.new ≡ []) }
 {
     write_whole(output, answers.text())?;
@@ -51,7 +53,8 @@ fn answer_end<H: LineHandler>(
     line: &[u8],
     answers: &mut Answers,
 ) -> Result<(), AllocError>
-    ensures { OnOk result ((last : _) × (text : List ℕ) × (tail : List ℕ) × H.takes handler.old line.now text last × H.ends last tail handler.new
+    ensures { OnOk result ((last : _) × (text : List ℕ) × (tail : List ℕ)
+        × H.takes handler.old line.now text last × H.ends last tail handler.new
         × (text_of answers.new ≡ text_of answers.old ++ (text ++ tail))) }
 {
     handler.line(line, answers)?;
@@ -69,8 +72,10 @@ fn new_block(heap: Global) -> Result<Vec<u8>, AllocError>
 fn next_block<R: Read>(input: &mut R, block: &mut [u8]) -> io::Result<Option<usize>>
     requires { 0 < length block.old }
     ensures count { IfOk result (λ next. IfSome next (λ count. count ≤ length block.new)) }
-    ensures read { IfOk result (λ next. IfSome next (λ count. Consumes (R.remaining input.old) (R.remaining input.new) (take count block.new))) }
-    ensures end { IfOk result (λ next. IfNone next (Consumes (R.remaining input.old) (R.remaining input.new) [] × IsAtEnd (R.remaining input.new))) }
+    ensures read { IfOk result (λ next. IfSome next
+        (λ count. Consumes (R.remaining input.old) (R.remaining input.new) (take count block.new))) }
+    ensures end { IfOk result (λ next. IfNone next
+        (Consumes (R.remaining input.old) (R.remaining input.new) [] × IsAtEnd (R.remaining input.new))) }
     ensures kept { OnErr result (Keeps (R.remaining input.old) (R.remaining input.new)) }
 {
     match read_block(input, block)? {
@@ -111,8 +116,8 @@ fn answer_blocks<H: LineHandler, R: Read, W: Write>(
     Err(ErrorKind::Interrupted.into())
 }
 
-// Answers all lines of an input on an output, however the input comes in blocks: each once, and in order. Where memory is wanting, or a
-// read or a write fails, what was written is a beginning of that.
+// Answers all lines of an input on an output, however the input comes in blocks: each once, and in order. Where memory is wanting,
+// or a read or a write fails, what was written is a beginning of that.
 pub fn answer_lines<H: LineHandler, R: Read, W: Write>(
     heap: Global,
     handler: &mut H,

@@ -8,8 +8,8 @@ use std::io::{ErrorKind, Read, Write};
 // More tries than any run makes: a loop has to be seen to end.
 pub(crate) const TRIES: u64 = u64::MAX;
 
-// Reads a block of input: how many octets it has, none only where the input is at its end. An interrupted read is made again; where
-// a read fails, nothing was read.
+// Reads a block of input: how many octets it has, none only where the input is at its end. An interrupted read is made again;
+// where a read fails, nothing was read.
 pub fn read_block<R: Read>(input: &mut R, block: &mut [u8]) -> io::Result<usize>
     ensures count { IfOk result (λ count. count ≤ length block.new) }
     ensures read { IfOk result (λ count. Consumes (R.remaining input.old) (R.remaining input.new) (take count block.new)) }
@@ -30,7 +30,8 @@ pub fn read_up_to<R: Read>(input: &mut R, memory: &mut [u8]) -> io::Result<usize
     ensures count { IfOk result (λ count. count ≤ length memory.new) }
     ensures read { IfOk result (λ count. Consumes (R.remaining input.old) (R.remaining input.new) (take count memory.new)) }
     ensures end { IfOk result (λ count. count < length memory.new → IsAtEnd (R.remaining input.new)) }
-    ensures some { OnErr result ((count : ℕ) × Consumes (R.remaining input.old) (R.remaining input.new) (take count memory.new)) }
+    ensures some { OnErr result ((count : ℕ)
+        × Consumes (R.remaining input.old) (R.remaining input.new) (take count memory.new)) }
 {
     let mut filled = 0;
     while filled < memory.len() {
@@ -60,7 +61,8 @@ fn write_some<W: Write>(output: &mut W, octets: &[u8]) -> io::Result<usize>
 // Writes all of the octets; where that fails, some of them, from the first on, were written.
 pub fn write_whole<W: Write>(output: &mut W, octets: &[u8]) -> io::Result<()>
     ensures all { OnOk result (Appends (W.contents output.old) (W.contents output.new) octets.now) }
-    ensures some { OnErr result ((count : ℕ) × Appends (W.contents output.old) (W.contents output.new) (take count octets.now)) }
+    ensures some { OnErr result ((count : ℕ)
+        × Appends (W.contents output.old) (W.contents output.new) (take count octets.now)) }
 {
     let mut written = 0;
     while written < octets.len() {

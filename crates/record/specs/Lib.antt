@@ -3,3 +3,4 @@ pub mod Deeds
 pub mod Recordings
 pub mod Keeping
 pub mod Courses
+pub mod Runs

@@ -1,7 +1,7 @@
 // Records a script that is read, and writes its reel.
 ghost use Rattle.std.specs.Prelude.{IfOk, IfSome, OnErr, OnOk};
 ghost use Rattle.std.specs.Io.KnownBytes.{IsAtEnd};
-ghost use Rattle.record.specs.Recordings.{BeginsRecording, IsRecorded};
+ghost use Rattle.record.specs.Runs.{BeginsRecording, IsRecorded};
 
 use crate::recorder::Recorder;
 use lines::{answer_lines, write_whole};
@@ -9,9 +9,9 @@ use std::alloc::Global;
 use std::io;
 use std::io::{Read, Write};
 
-// Records a script, to its end: says what there is to be remarked of its lines, and then writes the reel; and nothing else: whether an
-// exchange has begun, and all of its calls are on the reel. Where memory is wanting, or a read or a write fails, what was said and
-// written is a beginning of that.
+// Records a script, to its end: says what there is to be remarked of its lines, and then writes the reel, and nothing else; and
+// answers whether an exchange has begun, and all of its calls are on the reel. Where memory is wanting, or a read or a write fails,
+// what was said and written is a beginning of that.
 pub fn record_script<R: Read, E: Write, W: Write>(
     heap: Global,
     input: &mut R,

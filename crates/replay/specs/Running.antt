@@ -12,9 +12,10 @@ abbrev pub fault_line : Option Fault → List ℕ
 fault_line None = []
 fault_line (Some fault) = codes "replay: " ++ (fault_text fault ++ codes "\n")
 
--- the whole input was replayed: just its text was written, just the fault that checking it finds was told, and it was answered whether
--- it is a reel
-pub record Replays (level : Level) (octets : List ℕ) (is_reel : Bool) (output grown faults told : Option (List ℕ)) : Type 0 where
+-- the whole input was replayed: just its text was written, just the fault that checking it finds was told, and it was answered
+-- whether it is a reel
+pub record Replays (level : Level) (octets : List ℕ) (is_reel : Bool)
+    (output grown faults told : Option (List ℕ)) : Type 0 where
   pub text : Appends output grown (replay_text level octets)
   pub fault : Appends faults told (fault_line (blamed_in (checked octets)))
   pub reel : is_reel ≡ is_ok (checked octets)
@@ -29,4 +30,5 @@ pub record BeginsTelling (text line : List ℕ) (output grown faults told : Opti
 
 -- the same of what is due to an input
 abbrev pub BeginsReplay : Level → List ℕ → (output grown faults told : Option (List ℕ)) → Type 0
-BeginsReplay level octets output grown faults told = BeginsTelling (replay_text level octets) (fault_line (blamed_in (checked octets))) output grown faults told
+BeginsReplay level octets output grown faults told =
+    BeginsTelling (replay_text level octets) (fault_line (blamed_in (checked octets))) output grown faults told

@@ -50,7 +50,8 @@ fn tell<W: Write, E: Write>(
     faults: &mut E,
 ) -> io::Result<()>
     ensures text { OnOk result (Appends (W.contents output.old) (W.contents output.new) (outcome_text outcome.now)) }
-    ensures fault { OnOk result (Appends (E.contents faults.old) (E.contents faults.new) (fault_line (blamed outcome.now))) }
+    ensures fault { OnOk result
+        (Appends (E.contents faults.old) (E.contents faults.new) (fault_line (blamed outcome.now))) }
     ensures some { OnErr result (BeginsTelling (outcome_text outcome.now) (fault_line (blamed outcome.now))
         (W.contents output.old) (W.contents output.new) (E.contents faults.old) (E.contents faults.new)) }
 {
@@ -74,7 +75,8 @@ fn replay_within<R: Read, W: Write, E: Write>(
         (W.contents output.old) (W.contents output.new) (E.contents faults.old) (E.contents faults.new))) }
     ensures some { OnErr result (IfSome (R.remaining input.old) (λ octets. BeginsReplay level octets
         (W.contents output.old) (W.contents output.new) (E.contents faults.old) (E.contents faults.new))) }
-    ensures few { (octets : List ℕ) × (length octets ≤ 65537) × Consumes (R.remaining input.old) (R.remaining input.new) octets }
+    ensures few { (octets : List ℕ) × (length octets ≤ 65537)
+        × Consumes (R.remaining input.old) (R.remaining input.new) octets }
 {
     let count = read_up_to(input, memory)?;
     let outcome = Outcome::of(level, &memory[..count]);
@@ -82,8 +84,9 @@ fn replay_within<R: Read, W: Write, E: Write>(
     Ok(outcome.is_reel())
 }
 
-// Replays the octets of an input at a level, and writes what comes of them, and what there is to be told of a fault: whether they are a
-// reel. Where memory is wanting, or a read or a write fails, what was written is a beginning of that.
+// Replays the octets of an input at a level, and writes what comes of them, and what there is to be told of a fault, and nothing
+// else; and answers whether they are a reel. Where memory is wanting, or a read or a write fails, what was written is a beginning
+// of that.
 pub fn replay<R: Read, W: Write, E: Write>(
     heap: Global,
     level: Level,
@@ -95,7 +98,8 @@ pub fn replay<R: Read, W: Write, E: Write>(
         (W.contents output.old) (W.contents output.new) (E.contents faults.old) (E.contents faults.new))) }
     ensures some { OnErr result (IfSome (R.remaining input.old) (λ octets. BeginsReplay level octets
         (W.contents output.old) (W.contents output.new) (E.contents faults.old) (E.contents faults.new))) }
-    ensures few { (octets : List ℕ) × (length octets ≤ 65537) × Consumes (R.remaining input.old) (R.remaining input.new) octets }
+    ensures few { (octets : List ℕ) × (length octets ≤ 65537)
+        × Consumes (R.remaining input.old) (R.remaining input.new) octets }
 {
     let mut memory = new_memory(heap)?;
     replay_within(heap, level, &mut memory, input, output, faults)
