@@ -1,9 +1,9 @@
 -- The standings that tellings lead to: each leg's is what the notices told to it alone give.
-use Rattle.std.proofs.Common.{◌≡◌, ℕ, ◌<◌, List, [], ◌∷◌, ◌++◌, Ok, Err, Result, refl, sym, ap, inl, inr, ◌∙◌, lit<, arith}
-use Rattle.std.proofs.lemmas.Bool.Decides.{eqb_tells}
+use Rattle.std.proofs.Common.{◌≡◌, ℕ, ◌<◌, List, [], ◌∷◌, ◌++◌, Ok, Err, Result, refl, sym, ap, inl, inr, ◌∙◌, lit<, arith, true, false, length, ◌≤◌}
+use Rattle.std.proofs.lemmas.Bool.Decides.{eqb_tells, nat_tests}
 use Rattle.std.proofs.lemmas.List.Elements.{filter-append}
 use Rattle.std.proofs.lemmas.List.Sums.{fold-append}
-use Rattle.std.proofs.lemmas.List.{append-nil, map-append}
+use Rattle.std.proofs.lemmas.List.{length-map, append-nil, map-append}
 use Rattle.line.specs.declared.acts.Act.{Act}
 use Rattle.line.specs.declared.acts.Act.TheVariants.{Tell, Collect}
 use Rattle.line.specs.declared.acts.BothLines.{BothLines}
@@ -11,9 +11,9 @@ use Rattle.line.specs.declared.meaning.Refusal.{Refusal}
 use Rattle.line.specs.declared.meaning.Refusal.TheVariants.{NoSuchLeg, NoRoom}
 use Rattle.line.specs.declared.notice.Notice.{Notice}
 use Rattle.line.specs.declared.outbox.Outbox.{Outbox}
-use Rattle.line.specs.Acts.{Alone, CarriedOut, DoesAct, told, since, Run, new, next, GoesOn, Both, BothGoOn, NewLines}
+use Rattle.line.specs.Acts.{fits, taken_in, all_taken_in, Alone, CarriedOut, DoesAct, told, since, Run, new, next, GoesOn, Both, BothGoOn, NewLines}
 use Rattle.line.specs.Boards.{board_standing}
-use Rattle.line.specs.Meaning.{Standings, Same, Hears}
+use Rattle.line.specs.Meaning.{Leg, Standings, Same, Hears}
 use Rattle.line.specs.Notices.{after}
 use Rattle.line.specs.Order.{Telling}
 use Rattle.line.specs.Outboxes.{messages, notify, outbox_standing, outbox_room, OutboxCollects, OutboxTells, waiting}
@@ -64,12 +64,33 @@ waits_on (Tell leg n) (Ok _) o o' ws does was = does ∙ rw was (sym (map-append
 waits_on (Tell leg n) (Err e) o o' ws does was = rw (does, append-nil ws) was
 waits_on Collect r o o' ws does was = does.handed_over
 
+-- as many wait as were told since
+as_many : (o : Outbox) (ws : List Telling) → waiting o ≡ messages ws → length (waiting o) ≡ length ws
+as_many o ws was = ap length was ∙ length-map ws (λ t. notify t.0 t.1)
+
+fits_in : (leg : ℕ) (ws : List Telling) → Leg leg → length ws < 128 → fits leg ws ≡ true
+fits_in leg ws there some = grind (arith, nat_tests, there.least, there.most, some)
+
+no_fit : (leg : ℕ) (ws : List Telling) → (1 ≤ leg → leg ≤ 64 → length ws < 128 → ⊥) → fits leg ws ≡ false
+no_fit leg ws not_so = grind (arith, nat_tests, not_so)
+
+-- an outbox takes in just what fits
+takes_in : (act : Act) (r : Result Unit Refusal) (o o' : Outbox) (ts ws : List Telling) → CarriedOut act (outbox_standing o) (outbox_standing o') (outbox_room o) (outbox_room o') r → waiting o ≡ messages ws → taken_in (ts, ws) act ≡ (ts ++ told act r, since act r ws)
+takes_in Collect r o o' ts ws done was = simp append-nil refl
+takes_in (Tell leg n) (Ok _) o o' ts ws done was = rw (fits_in leg ws done.in_range (omega (arith, done.had_room, as_many o ws was))) refl
+takes_in (Tell leg n) (Err NoSuchLeg) o o' ts ws done was = simp (append-nil) (rw (no_fit leg ws (λ a b c. done.0 (record { least = a; most = b }))) refl)
+takes_in (Tell leg n) (Err NoRoom) o o' ts ws done was = simp (append-nil) (rw (no_fit leg ws (λ a b c. absurd (omega (arith, c, done.1, as_many o ws was)))) refl)
+
+just_so : (acts : List Act) (act : Act) (r : Result Unit Refusal) (o o' : Outbox) (ts ws : List Telling) → CarriedOut act (outbox_standing o) (outbox_standing o') (outbox_room o) (outbox_room o') r → waiting o ≡ messages ws → all_taken_in acts ≡ (ts, ws) → all_taken_in (acts ++ (act ∷ [])) ≡ (ts ++ told act r, since act r ws)
+just_so acts act r o o' ts ws done was so = simp (fold-append) (ap (λ x. taken_in x act) so ∙ takes_in act r o o' ts ws done was)
+
 -- an act that the outbox does not refuse was then done on both
 pub both_told : (act : Act) (r : Result Unit Refusal) {lines lines' : BothLines} → DoesAct OutboxTells OutboxCollects act lines.outbox lines'.outbox (Ok tt) → CarriedOut act (outbox_standing lines.outbox) (outbox_standing lines'.outbox) (outbox_room lines.outbox) (outbox_room lines'.outbox) (Ok tt) → CarriedOut act (board_standing lines.board) (board_standing lines'.board) 128 128 r → BothGoOn act lines lines'
 both_told act r {lines} {lines'} does outbox board = λ acts both. record {
   taken = both.taken ++ (act ∷ []);
   ts = both.ts ++ told act (Ok tt);
   ws = since act (Ok tt) both.ws;
+  just = just_so acts act (Ok tt) lines.outbox lines'.outbox both.ts both.ws outbox both.waits both.just;
   outbox = (goes_on outbox).run acts both.ts both.ws both.outbox;
   waits = waits_on act (Ok tt) lines.outbox lines'.outbox both.ws does both.waits;
   since_then = since act r both.since_then;
@@ -82,6 +103,7 @@ both_refused act e {lines} {lines'} does outbox same = λ acts both. record {
   taken = both.taken;
   ts = both.ts;
   ws = since act (Err e) both.ws;
+  just = simp (refused_nothing act e, append-nil) at (just_so acts act (Err e) lines.outbox lines'.outbox both.ts both.ws outbox both.waits both.just);
   outbox = simp (refused_nothing act e, append-nil) at ((goes_on outbox).run acts both.ts both.ws both.outbox);
   waits = waits_on act (Err e) lines.outbox lines'.outbox both.ws does both.waits;
   since_then = both.since_then;

@@ -1,5 +1,5 @@
 -- Tellings and collections, and the standings that they lead to. Assumes nothing.
-use Rattle.std.specs.Prelude.{◌≡◌, ℕ, ◌≤◌, List, [], ◌∷◌, ◌++◌, fold, map, Ok, Err, filter, Result, nat_eq}
+use Rattle.std.specs.Prelude.{◌≡◌, ℕ, ◌≤◌, List, [], ◌∷◌, ◌++◌, fold, map, Ok, Err, filter, Result, nat_eq, nat_le, nat_lt, Bool, cond, ◌&&◌, length}
 use Rattle.line.specs.declared.acts.Act.{Act}
 use Rattle.line.specs.declared.acts.Act.TheVariants.{Tell, Collect}
 use Rattle.line.specs.declared.acts.BothLines.{BothLines}
@@ -63,12 +63,24 @@ pub record GoesOn (act : Act) (r : Result Unit Refusal) (s s' : Standings) (room
   pub run : (acts : List Act) (ts ws : List Telling) → Run acts ts ws s room → Run (acts ++ (act ∷ [])) (ts ++ told act r) (since act r ws) s' room'
   pub alone : (acts : List Act) (ts ws : List Telling) → Run acts ts ws s room → Alone (ts ++ told act r) s'
 
+-- what an act adds on an outbox, to what was told and to what waits of it: a leg's telling, unless 128 wait; a collection leaves none
+abbrev pub fits : ℕ → List Telling → Bool
+fits leg ws = nat_le 1 leg && nat_le leg 64 && nat_lt (length ws) 128
+
+abbrev pub taken_in : List Telling × List Telling → Act → List Telling × List Telling
+taken_in x (Tell leg notice) = cond (fits leg x.1) (x.0 ++ ((leg, notice) ∷ []), x.1 ++ ((leg, notice) ∷ [])) x
+taken_in x Collect = (x.0, [])
+
+abbrev pub all_taken_in : List Act → List Telling × List Telling
+all_taken_in acts = fold (λ x act. taken_in x act) ([], []) acts
+
 -- an outbox on which acts were done, and a board on which those were done that the outbox did not refuse: the same was told
 -- on both, and what was told since the last collection waits on the outbox, and nothing else
 pub record Both (acts : List Act) (lines : BothLines) : Type 0 where
   pub taken : List Act
   pub ts : List Telling
   pub ws : List Telling
+  pub just : all_taken_in acts ≡ (ts, ws)
   pub outbox : Run acts ts ws (outbox_standing lines.outbox) (outbox_room lines.outbox)
   pub waits : waiting lines.outbox ≡ messages ws
   pub since_then : List Telling

@@ -128,7 +128,7 @@ module _ {L : Type 0} {standing : L → Standings} {room : L → ℕ} {tells : L
   pub reached_none : {level : Level} {entry : L} {t : Table} {l : L} → t ≡ new_table → collects entry l → Same (standing entry) (standing l) → Run level [] t (standing l) (room l)
       → Reached standing room tells collects level [] [] entry t l
   reached_none {level} {entry} {t} {l} new does kept run = subst (λ x. Reached standing room tells collects level [] [] entry x l) (sym new) (record {
-    all = record { history = []; taken = refl; answered = refl; run = collected l does kept; law = company_new refl };
+    all = record { history = []; taken = refl; answered = refl; run = collected l does kept; leads = subst (λ x. Run level [] x (standing l) (room l)) new run; law = company_new refl };
     history = subst (λ x. Run level [] x (standing l) (room l)) new run;
   })
 
@@ -142,6 +142,12 @@ module _ {L : Type 0} {standing : L → Standings} {room : L → ℕ} {tells : L
       answered : answer ≡ (turn level (room l) st t).answer
       answered = taken.answered ∙ ap (λ v. (turn v (room l) st t).answer) same
 
+      told_so : Heard (turn level (room l) st t).effect.told (standing l) (standing l')
+      told_so = subst (λ v. Heard (turn v (room l) st t).effect.told (standing l) (standing l')) same taken.heard
+
+      roomy_so : RoomAfter st (turn level (room l) st t).effect (room l) (room l')
+      roomy_so = subst (λ v. RoomAfter st (turn v (room l) st t).effect (room l) (room l')) same taken.roomy
+
       on : GoesOn level st (turn level (room l) st t).answer t (turn level (room l) st t).effect.table (standing l) (standing l') (room l) (room l')
       on = goes_on (subst (λ v. Heard (turn v (room l) st t).effect.told (standing l) (standing l')) same taken.heard) (subst (λ v. RoomAfter st (turn v (room l) st t).effect (room l) (room l')) same taken.roomy)
 
@@ -151,7 +157,8 @@ module _ {L : Type 0} {standing : L → Standings} {room : L → ℕ} {tells : L
           history = reached.all.history ++ ((st, (turn level (room l) st t).answer) ∷ []);
           taken = simp map-append (ap (λ xs. xs ++ (st ∷ [])) reached.all.taken);
           answered = simp map-append (ap (λ xs. xs ++ ((turn level (room l) st t).answer ∷ [])) reached.all.answered);
-          run = then reached.all.history t l l' st reached.all.run (subst (λ v. DoesOnLine tells collects st (turn v (room l) st t).effect l l') same does);
+          run = then reached.all.history t l l' st reached.all.run (subst (λ v. DoesOnLine tells collects st (turn v (room l) st t).effect l l') same does) told_so roomy_so;
+          leads = on.run reached.all.history reached.history;
           law = (reached.all.law, on.law reached.all.history reached.history);
         };
         history = on.run reached.all.history reached.history;

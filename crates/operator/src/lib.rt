@@ -10,5 +10,5 @@ mod steps;
 
 pub use answer::Answer;
 pub use operating::step;
-pub use runs::{Finished, run, start};
+pub use runs::{run, start};
 pub use steps::Step;

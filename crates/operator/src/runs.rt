@@ -6,7 +6,7 @@ ghost use Rattle.operator.specs.OnLine.{TakesAll};
 ghost use Rattle.operator.specs.Roster.{empty};
 ghost use Rattle.operator.specs.Run.{Run, Taken};
 ghost use Rattle.operator.specs.Turns.{DoesOnLine, new_table, turn};
-ghost use Rattle.std.specs.Prelude.{◌≡◌, ◌+◌, ◌<◌, [], ◌∷◌, ◌++◌, IfOk, map, OnErr, vec_len};
+ghost use Rattle.std.specs.Prelude.{◌≡◌, ◌↔◌, ◌+◌, ◌<◌, ◌≤◌, [], ◌∷◌, ◌++◌, IfOk, IsOk, length, map, OnErr, vec_len};
 ghost use Rattle.std.specs.Vec.{vec_capacity};
 
 use crate::answer::Answer;
@@ -14,7 +14,7 @@ use crate::operating::step;
 use crate::steps::Step;
 use controller::Controller;
 use line::Line;
-use std::alloc::{AllocError, Global};
+use std::alloc::AllocError;
 use tables::Level;
 
 // Makes the controller at a level and collects the line: the start of a run, and the company law holds there.
@@ -50,33 +50,28 @@ fn take_into<L: Line>(
     answers.push_reserved(step(controller, line, next));
 }
 
-// A controller that took steps, and what it answered them, in their order.
-#[derive(Drop)]
-pub struct Finished {
-    pub controller: Controller,
-    pub answers: Vec<Answer>,
-}
-
 // Takes all steps of a list on a new controller at a level, and on a line that is collected first. The turn of each is taken at the
 // room that the line has then, and nothing is told beyond what the turns tell; the company law holds at the start and after each.
-// Where there is no memory for the answers, nothing is done.
+// The answers are handed out in their order, in place of what their memory held; memory for fewer than there are steps is refused, and
+// nothing is done then.
 pub fn run<L: Line>(
-    heap: Global,
     level: Level,
     line: &mut L,
     steps: &[Step],
-) -> Result<Finished, AllocError>
-    ensures level { IfOk result (λ ran. ran.controller.level ≡ level) }
-    ensures run { IfOk result (λ ran. TakesAll L.standing L.room L.tells L.collects level steps.now (map in_octets ran.answers.items) line.old ran.controller.tables line.new) }
-    ensures none { OnErr result (line.new ≡ line.old) }
+    answers: &mut Vec<Answer>,
+) -> Result<Controller, AllocError>
+    ensures room { IsOk result ↔ (length steps.now ≤ vec_capacity answers.old) }
+    ensures level { IfOk result (λ controller. controller.level ≡ level) }
+    ensures run { IfOk result (λ controller. TakesAll L.standing L.room L.tells L.collects level steps.now (map in_octets answers.new.items) line.old controller.tables line.new) }
+    ensures none { OnErr result ((line.new ≡ line.old) × (answers.new ≡ answers.old)) }
 {
-    let mut answers = Vec::with_capacity(heap, steps.len())?;
+    if answers.capacity() < steps.len() {
+        return Err(AllocError);
+    }
+    answers.clear();
     let mut controller = start(level, line);
     for next in steps {
-        take_into(&mut controller, line, *next, &mut answers);
+        take_into(&mut controller, line, *next, answers);
     }
-    Ok(Finished {
-        controller,
-        answers,
-    })
+    Ok(controller)
 }

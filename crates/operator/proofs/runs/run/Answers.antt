@@ -9,8 +9,8 @@ use Rattle.operator.proofs.runs.run.Goals as goal
 pub loop-next-init : goal.loop-next-init
 loop-next-init g c = record {
   level = c.start-controller.ensures.level;
-  room = omega (arith, c.in_ok-answers.ensures.len, c.in_ok-answers.ensures.capacity);
-  reached = rw c.in_ok-answers.ensures.items (reached_none c.start-controller.ensures.tables c.start-controller.ensures.collects c.start-controller.ensures.kept c.start-controller.ensures.run);
+  room = omega (arith, c.if-capacity-steps.false, c.capacity.ensures, c.clear.ensures.len, c.clear.ensures.capacity);
+  reached = rw c.clear.ensures.items (reached_none c.start-controller.ensures.tables c.start-controller.ensures.collects c.start-controller.ensures.kept c.start-controller.ensures.run);
 }
 
 -- one step more

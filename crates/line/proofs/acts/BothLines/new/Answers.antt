@@ -1,4 +1,4 @@
-use Rattle.std.proofs.Common.{[], length, ap, arith, lit≤}
+use Rattle.std.proofs.Common.{[], length, ap, arith, lit≤, refl}
 use Rattle.line.specs.Acts.{new}
 use Rattle.line.proofs.acts.BothLines.new.Goals as goal
 
@@ -7,6 +7,7 @@ returns c = record {
   taken = [];
   ts = [];
   ws = [];
+  just = refl;
   outbox = new _ _ c.new.ensures.standings (omega (arith, ap length c.new.ensures.empty));
   waits = c.new.ensures.empty;
   since_then = [];
