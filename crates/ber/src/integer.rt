@@ -2,11 +2,18 @@
 ghost use Rattle.std.specs.Prelude.{◌≡◌, length};
 ghost use Rattle.ber.specs.Integer.{is_short, as_integer, integer_octets};
 
+use crate::tags::{HEAD, INTEGER};
+
+// The numbers that one octet holds.
+const LEAST_SHORT: i16 = -128;
+
+const MOST_SHORT: i16 = 127;
+
 // One octet holds the number.
 pub fn is_short(n: i16) -> bool
     ensures { result ≡ is_short n }
 {
-    (-128..=127).contains(&n)
+    (LEAST_SHORT..=MOST_SHORT).contains(&n)
 }
 
 // The number that a value holds, if the value is an INTEGER.
@@ -14,8 +21,8 @@ pub fn read_integer(value: &[u8]) -> Option<i16>
     ensures { result ≡ as_integer value.now }
 {
     match value {
-        [0x02, 0x01, low] => Some(i16::from(low.cast_signed())),
-        [0x02, 0x02, high, low] => {
+        [INTEGER, 1, low] => Some(i16::from(low.cast_signed())),
+        [INTEGER, 2, high, low] => {
             let n = i16::from_be_bytes([*high, *low]);
             if is_short(n) { None } else { Some(n) }
         }
@@ -27,5 +34,5 @@ pub fn read_integer(value: &[u8]) -> Option<i16>
 pub fn integer_size(n: i16) -> usize
     ensures { result ≡ length (integer_octets n) }
 {
-    if is_short(n) { 3 } else { 4 }
+    if is_short(n) { HEAD + 1 } else { HEAD + 2 }
 }

@@ -5,9 +5,11 @@
 #![tactic(auto)]
 
 mod integer;
+mod tags;
 mod value;
 mod window;
 
 pub use integer::{integer_size, is_short, read_integer};
+pub use tags::{HEAD, INTEGER, MOST_CONTENTS, NULL, SEQUENCE};
 pub use value::read_value;
 pub use window::{BadValue, check_structure};

@@ -2,6 +2,7 @@
 ghost use Rattle.std.specs.Prelude.{◌≡◌, ◌-◌, ◌<◌, MatchOption};
 ghost use Rattle.ber.specs.Windows.{Within, Kept, ValueChecked, ListChecked, StructureChecked};
 
+use crate::tags::HEAD;
 use crate::value::{is_constructed, read_value};
 
 // A value that is not well structured, by the place of its first octet.
@@ -60,7 +61,7 @@ impl Window<'_> {
         let size = value.len();
         if is_constructed(value[0]) {
             let outer = self.end;
-            self.pos = place + 2;
+            self.pos = place + HEAD;
             self.end = place + size;
             let nested = Nested {
                 window: self,

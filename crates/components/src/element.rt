@@ -15,8 +15,12 @@ ghost use Rattle.components.specs.Writing.{encoded, placed};
 use crate::component::{Component, Parameter};
 use crate::fault::{Cause, Fault};
 use crate::kind::{Kind, kind_of};
+use crate::layout::{
+    COMPONENT_PLACE, ID_PLACE, IDENTIFIER, IDENTIFIER_PLACE, LENGTH_PLACE, LEVELS, MOST_OCTETS,
+    PROFILE, PROFILE_PLACE,
+};
 use crate::values::{Values, read_answer};
-use ber::check_structure;
+use ber::{HEAD, check_structure};
 
 // The octets behind the head 1C, length, 91: the component's place.
 fn behind_head(octets: &[u8]) -> Result<&[u8], Fault>
@@ -26,17 +30,17 @@ fn behind_head(octets: &[u8]) -> Result<&[u8], Fault>
     let [identifier, length, profile, component @ ..] = octets else {
         return Err(Cause::Count.at(count));
     };
-    if count > 132 {
+    if count > MOST_OCTETS {
         return Err(Cause::Count.at(count));
     }
-    if *identifier != 0x1c {
-        return Err(Cause::Identifier.at(0));
+    if *identifier != IDENTIFIER {
+        return Err(Cause::Identifier.at(IDENTIFIER_PLACE));
     }
-    if usize::from(*length) + 2 != count {
-        return Err(Cause::Length.at(1));
+    if usize::from(*length) + HEAD != count {
+        return Err(Cause::Length.at(LENGTH_PLACE));
     }
-    if *profile != 0x91 {
-        return Err(Cause::Profile.at(2));
+    if *profile != PROFILE {
+        return Err(Cause::Profile.at(PROFILE_PLACE));
     }
     Ok(component)
 }
@@ -46,7 +50,7 @@ fn check_component(octets: &[u8]) -> Result<(), Fault>
     requires { 3 ≤ length octets.now }
     ensures { MatchResult result (λ _. bad_component (drop 3 octets.now) ≡ None) (λ f. (bad_component (drop 3 octets.now) ≡ Some f.place) × (f ≡ at Structure f.place)) }
 {
-    let end = check_structure(octets, 3, 8)?;
+    let end = check_structure(octets, COMPONENT_PLACE, LEVELS)?;
     if end != octets.len() {
         return Err(Cause::Structure.at(end));
     }
@@ -64,7 +68,10 @@ fn values_of(component: &[u8]) -> Values<'_>
     let [_tag, _length, rest @ ..] = component else {
         unreachable!()
     };
-    Values { rest, place: 5 }
+    Values {
+        rest,
+        place: ID_PLACE,
+    }
 }
 
 // What a component of this kind says.

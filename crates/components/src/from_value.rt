@@ -4,7 +4,8 @@ ghost use Rattle.components.specs.Typed.{as_integer_or_null, as_problem};
 ghost use Rattle.ber.specs.Integer.{as_integer};
 
 use crate::component::Problem;
-use ber::read_integer;
+use crate::layout::{GENERAL_PROBLEM, INVOKE_PROBLEM, RETURN_ERROR_PROBLEM, RETURN_RESULT_PROBLEM};
+use ber::{NULL, read_integer};
 
 // What one value of a component is read as.
 pub(crate) trait FromValue: Sized {
@@ -28,7 +29,7 @@ impl FromValue for Option<i16> {
 
     fn from_value(value: &[u8]) -> Option<Option<i16>> {
         match value {
-            [0x05, 0x00] => Some(None),
+            [NULL, 0] => Some(None),
             _ => read_integer(value).map(Some),
         }
     }
@@ -39,10 +40,10 @@ impl FromValue for Problem {
 
     fn from_value(value: &[u8]) -> Option<Problem> {
         match value {
-            [0x80, 0x01, code] => Some(Problem::General(*code)),
-            [0x81, 0x01, code] => Some(Problem::Invoke(*code)),
-            [0x82, 0x01, code] => Some(Problem::ReturnResult(*code)),
-            [0x83, 0x01, code] => Some(Problem::ReturnError(*code)),
+            [GENERAL_PROBLEM, 1, code] => Some(Problem::General(*code)),
+            [INVOKE_PROBLEM, 1, code] => Some(Problem::Invoke(*code)),
+            [RETURN_RESULT_PROBLEM, 1, code] => Some(Problem::ReturnResult(*code)),
+            [RETURN_ERROR_PROBLEM, 1, code] => Some(Problem::ReturnError(*code)),
             _ => None,
         }
     }

@@ -9,6 +9,7 @@ ghost use Rattle.ber.specs.Value.{tag};
 
 use crate::component::Component;
 use crate::fault::{Cause, Fault};
+use crate::layout::COMPONENT_PLACE;
 
 // The kind of a component, with the tag that says it.
 #[derive(Clone, Copy, PartialEq, Eq, Debug)]
@@ -37,7 +38,7 @@ pub(crate) fn kind_of(component: &[u8]) -> Result<Kind, Fault>
         [RETURN_RESULT, ..] => Ok(Kind::ReturnResult),
         [RETURN_ERROR, ..] => Ok(Kind::ReturnError),
         [REJECT, ..] => Ok(Kind::Reject),
-        _ => Err(Cause::Tag.at(3)),
+        _ => Err(Cause::Tag.at(COMPONENT_PLACE)),
     }
 }
 

@@ -9,8 +9,12 @@ ghost use Rattle.std.specs.Option.{option_map};
 ghost use Rattle.components.specs.declared.write.Refusal.TheVariants.{Unreadable};
 
 use crate::component::{Answer, Component, Parameter, Problem};
+use crate::layout::{
+    GENERAL_PROBLEM, ID_PLACE, IDENTIFIER, INNER_LEVELS, INVOKE_PROBLEM, PROFILE,
+    RETURN_ERROR_PROBLEM, RETURN_RESULT_PROBLEM, VALUE_LEVELS,
+};
 use arrayvec::ArrayVec;
-use ber::{check_structure, integer_size, is_short};
+use ber::{INTEGER, NULL, SEQUENCE, check_structure, integer_size, is_short};
 
 // Why nothing was written.
 #[derive(Clone, Copy, Debug, PartialEq, Eq)]
@@ -63,9 +67,9 @@ impl Contents {
     {
         let [high, low] = n.to_be_bytes();
         if is_short(n) {
-            self.put(&[0x02, 0x01, low])
+            self.put(&[INTEGER, 1, low])
         } else {
-            self.put(&[0x02, 0x02, high, low])
+            self.put(&[INTEGER, 2, high, low])
         }
     }
 
@@ -76,7 +80,7 @@ impl Contents {
     {
         match id {
             Some(n) => self.put_integer(n),
-            None => self.put(&[0x05, 0x00]),
+            None => self.put(&[NULL, 0]),
         }
     }
 
@@ -86,12 +90,12 @@ impl Contents {
         ensures { Appends (problem_octets problem) self.old self.new result }
     {
         let (tag, code) = match problem {
-            Problem::General(code) => (0x80, code),
-            Problem::Invoke(code) => (0x81, code),
-            Problem::ReturnResult(code) => (0x82, code),
-            Problem::ReturnError(code) => (0x83, code),
+            Problem::General(code) => (GENERAL_PROBLEM, code),
+            Problem::Invoke(code) => (INVOKE_PROBLEM, code),
+            Problem::ReturnResult(code) => (RETURN_RESULT_PROBLEM, code),
+            Problem::ReturnError(code) => (RETURN_ERROR_PROBLEM, code),
         };
-        self.put(&[tag, 0x01, code])
+        self.put(&[tag, 1, code])
     }
 
     // A parameter, if there is one.
@@ -101,7 +105,7 @@ impl Contents {
         let Some(parameter) = parameter else {
             return Ok(());
         };
-        self.put(one_value(parameter.octets, 7)?)
+        self.put(one_value(parameter.octets, VALUE_LEVELS)?)
     }
 
     // The SEQUENCE of an operation and the value that answers it.
@@ -109,10 +113,10 @@ impl Contents {
     fn put_answer(&mut self, answer: Answer<'_>) -> Result<(), Refusal>
         ensures { AppendsIf (One 6 answer.entry.parameter.octets.now) (answer_octets (Some (answered answer.entry))) self.old self.new result }
     {
-        let octets = one_value(answer.parameter.octets, 6)?;
+        let octets = one_value(answer.parameter.octets, INNER_LEVELS)?;
         let length = integer_size(answer.operation) + octets.len();
         // One value has at most 129 octets, so the length fits an octet.
-        self.put(&[0x30, length as u8])?;
+        self.put(&[SEQUENCE, length as u8])?;
         self.put_integer(answer.operation)?;
         self.put(octets)
     }
@@ -181,15 +185,15 @@ impl Component<'_> {
         };
         contents.put_values(self)?;
         let length = contents.octets.len();
-        let size = 5 + length;
+        let size = ID_PLACE + length;
         if memory.len() < size {
             return Err(Refusal::ShortMemory);
         }
         // The contents are at most 127 octets, so their number fits an octet.
         let count = length as u8;
         // By index: after a slice's `get_mut` the checker knows nothing of what the slice holds.
-        memory[..5].copy_from_slice(&[0x1c, count + 3, 0x91, self.tag(), count]);
-        memory[5..size].copy_from_slice(contents.octets.as_slice());
+        memory[..ID_PLACE].copy_from_slice(&[IDENTIFIER, count + 3, PROFILE, self.tag(), count]);
+        memory[ID_PLACE..size].copy_from_slice(contents.octets.as_slice());
         Ok(size)
     }
 }

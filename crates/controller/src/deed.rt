@@ -5,6 +5,9 @@ ghost use Rattle.tables.specs.Table.{Table};
 
 use tables::{Mark, Party};
 
+// The PartyId of whoever is the first in a conference.
+pub(crate) const FIRST_PARTY: u8 = 0;
+
 // An operation, with the conference and the party that it is about, by their ids or as they were found.
 #[derive(Clone, Copy, PartialEq, Eq, Debug)]
 pub enum Deed {

@@ -5,8 +5,12 @@ ghost use Rattle.components.specs.Message.{message_octets};
 ghost use Rattle.controller.specs.Discs.{disc_octets};
 
 use crate::composing::{FACILITY, compose};
+use ber::INTEGER;
 use components::{Component, Message, Parameter};
 use facility::Operation;
+
+// The greatest PartyId that one octet holds.
+const MOST_SHORT: u8 = 127;
 
 #[derive(Clone, Copy, PartialEq, Eq, Debug)]
 pub struct Disc {
@@ -34,8 +38,8 @@ impl Disc {
         ensures { message_octets result ≡ disc_octets self.now }
     {
         match self.party {
-            party @ 0..=127 => self.with_party(&[0x02, 0x01, party]),
-            party => self.with_party(&[0x02, 0x02, 0x00, party]),
+            party @ 0..=MOST_SHORT => self.with_party(&[INTEGER, 1, party]),
+            party => self.with_party(&[INTEGER, 2, 0, party]),
         }
     }
 }

@@ -3,7 +3,7 @@ ghost use Rattle.std.specs.Prelude.{◌≡◌, ◌<◌, length};
 ghost use Rattle.controller.specs.Deeds.{HasRoom, deed_effect};
 ghost use Rattle.controller.specs.Granting.{added, begun_by_setup, begun_on_call, led_to, split};
 
-use crate::deed::Deed;
+use crate::deed::{Deed, FIRST_PARTY};
 use tables::{Call, Conference, End, Party, State, Tables};
 
 // The call leads to a conference now, idle or held as it was.
@@ -39,7 +39,7 @@ fn begin_on_call(tables: &mut Tables, id: u8, size: u8, reference: u8, leg: u8)
     let state = led_to(id, call.state);
     tables.set_call(reference, Call { state, ..call });
     tables.begin(Conference::new(id, size, reference)).unwrap();
-    tables.join(id, 0, leg).unwrap();
+    tables.join(id, FIRST_PARTY, leg).unwrap();
 }
 
 // Added: the call's leg becomes a party, and the call is cleared.

@@ -9,9 +9,10 @@ ghost use Rattle.controller.specs.Given.{answer_of, ids_granted};
 
 use crate::carrier::Carrier;
 use crate::composing::{CONNECT, DISCONNECT, FACILITY, RELEASE_COMPLETE, compose};
-use crate::deed::Deed;
+use crate::deed::{Deed, FIRST_PARTY};
 use crate::judging::in_use;
 use crate::verdict::{Verdict, Wrong};
+use ber::{INTEGER, SEQUENCE};
 use components::{Answer, Component, Message, Parameter, Problem};
 use facility::{InvokeProblem, Operation, RequestInvoke};
 use tables::Tables;
@@ -48,12 +49,13 @@ fn ids_given(deed: Deed) -> Option<IdsGiven>
 {
     match deed {
         Deed::BeginBySetup { id, .. } => {
-            Some(IdsGiven::Conference([0x30, 0x03, 0x02, 0x01, id]))
+            Some(IdsGiven::Conference([SEQUENCE, 3, INTEGER, 1, id]))
         }
-        Deed::BeginOnCall { id, .. } => Some(IdsGiven::ConferenceAndParty([
-            0x30, 0x06, 0x02, 0x01, id, 0x02, 0x01, 0x00,
-        ])),
-        Deed::Add { party, .. } => Some(IdsGiven::Party([0x02, 0x01, party])),
+        Deed::BeginOnCall { id, .. } => {
+            let ids = [SEQUENCE, 6, INTEGER, 1, id, INTEGER, 1, FIRST_PARTY];
+            Some(IdsGiven::ConferenceAndParty(ids))
+        }
+        Deed::Add { party, .. } => Some(IdsGiven::Party([INTEGER, 1, party])),
         _ => None,
     }
 }

@@ -14,11 +14,16 @@ use crate::report::Report;
 use crate::told::Told;
 use tables::{Call, Conference, Event, Party, Phase, Refusal, Tables};
 
+// The call references that there are.
+const FIRST_REFERENCE: u8 = 1;
+
+const LAST_REFERENCE: u8 = 127;
+
 // Whether there is such a call reference.
 pub fn is_reference(reference: u8) -> bool
     ensures { result ≡ is_reference reference }
 {
-    (1..=127).contains(&reference)
+    (FIRST_REFERENCE..=LAST_REFERENCE).contains(&reference)
 }
 
 // Whether there is such a leg.

@@ -6,8 +6,8 @@ ghost use Rattle.facility.specs.Requests.{a_number, two_numbers, operation_of, a
 ghost use Rattle.components.specs.Writing.{encoded};
 
 use crate::operation::Operation;
-use ber::integer_size;
-use components::{Cause, Component, Fault, Parameter, read_element};
+use ber::{INTEGER, SEQUENCE, integer_size};
+use components::{COMPONENT_PLACE, Cause, Component, Fault, ID_PLACE, Parameter, read_element};
 
 #[derive(Clone, Copy, Debug, PartialEq, Eq)]
 pub enum Request {
@@ -78,12 +78,17 @@ impl Operation {
     }
 }
 
+// The most that a number of a request may be, and the octets of its INTEGER.
+pub(crate) const MOST_NUMBER: u8 = 127;
+
+const NUMBER_SIZE: usize = 3;
+
 // A number from 0 to 127: an INTEGER of one octet.
 fn number(octets: &[u8]) -> Option<u8>
     ensures { result ≡ a_number octets.now }
 {
     match octets {
-        [0x02, 0x01, n @ 0..=127] => Some(*n),
+        [INTEGER, 1, n @ 0..=MOST_NUMBER] => Some(*n),
         _ => None,
     }
 }
@@ -92,10 +97,10 @@ fn number(octets: &[u8]) -> Option<u8>
 fn two_numbers(octets: &[u8]) -> Option<(u8, u8)>
     ensures { result ≡ two_numbers octets.now }
 {
-    let [0x30, 0x06, ids @ ..] = octets else {
+    let [SEQUENCE, 6, ids @ ..] = octets else {
         return None;
     };
-    let (conference, party) = ids.split_at_checked(3)?;
+    let (conference, party) = ids.split_at_checked(NUMBER_SIZE)?;
     Some((number(conference)?, number(party)?))
 }
 
@@ -111,9 +116,9 @@ fn request_in(component: Component<'_>, end: usize) -> Result<RequestInvoke, Fau
         argument,
     } = component
     else {
-        return Err(Cause::NoInvoke.at(3));
+        return Err(Cause::NoInvoke.at(COMPONENT_PLACE));
     };
-    let unknown = Cause::Operation { id }.at(5 + integer_size(id));
+    let unknown = Cause::Operation { id }.at(ID_PLACE + integer_size(id));
     let operation = operation_of(operation).ok_or(unknown)?;
     let wrong = Cause::Argument { id }.at(argument.map_or(end, |value| value.place));
     let request = operation.asked(argument).ok_or(wrong)?;

@@ -6,7 +6,8 @@ ghost use Rattle.facility.specs.Requests.{operation_asked, request_argument, req
 ghost use Rattle.facility.specs.Writing.{Wrote};
 
 use crate::operation::Operation;
-use crate::request::{Request, RequestInvoke};
+use crate::request::{MOST_NUMBER, Request, RequestInvoke};
+use ber::{INTEGER, SEQUENCE};
 use components::{Component, Parameter, Refusal};
 
 impl Request {
@@ -29,11 +30,12 @@ impl Request {
         ensures { IsTrue result ↔ InRange self }
     {
         match self {
-            Request::Begin { size } => size.is_none_or(|size| size <= 127),
-            Request::Add { conference } => conference <= 127,
-            Request::Split { conference, party } => conference <= 127 && party <= 127,
+            Request::Begin { size } => size.is_none_or(|size| size <= MOST_NUMBER),
+            Request::Add { conference } => conference <= MOST_NUMBER,
+            Request::Split { conference, party } => conference <= MOST_NUMBER
+                && party <= MOST_NUMBER,
             Request::Drop { party } | Request::Isolate { party } | Request::Reattach { party } => {
-                party <= 127
+                party <= MOST_NUMBER
             }
         }
     }
@@ -75,9 +77,9 @@ impl RequestInvoke {
             | Request::Add { conference: n }
             | Request::Drop { party: n }
             | Request::Isolate { party: n }
-            | Request::Reattach { party: n } => self.write_with(Some(&[0x02, 0x01, n]), memory),
+            | Request::Reattach { party: n } => self.write_with(Some(&[INTEGER, 1, n]), memory),
             Request::Split { conference, party } => {
-                let ids = [0x30, 0x06, 0x02, 0x01, conference, 0x02, 0x01, party];
+                let ids = [SEQUENCE, 6, INTEGER, 1, conference, INTEGER, 1, party];
                 self.write_with(Some(&ids), memory)
             }
         }

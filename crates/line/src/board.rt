@@ -9,17 +9,23 @@ use crate::meaning::{Line, Refusal};
 use crate::notice::Notice;
 use crate::standing::Standing;
 
+// A place for each leg, at its number, and one more.
+const PLACES: usize = 65;
+
+// How many notices can be told, always.
+const ROOM: usize = 128;
+
 // The standing of each leg, at the leg's number, in memory of fixed size; the first stands for no leg and never changes.
 #[derive(Clone, Copy, PartialEq, Eq, Debug)]
 pub struct Board {
-    standings: [Standing; 65],
+    standings: [Standing; PLACES],
 }
 
 // As many new standings as there are places.
-fn new_standings() -> [Standing; 65]
+fn new_standings() -> [Standing; PLACES]
     ensures { result ≡ replicate 65 fresh }
 {
-    [Standing::new(); 65]
+    [Standing::new(); PLACES]
 }
 
 impl Board {
@@ -56,7 +62,7 @@ impl Line for Board {
     }
 
     fn room(&self) -> usize {
-        128
+        ROOM
     }
 
     fn standing(&self, leg: u8) -> Result<Standing, Refusal> {

@@ -5,11 +5,16 @@ ghost use Rattle.line.specs.Meaning.{Leg};
 
 use crate::meaning::Refusal;
 
+// The legs that there are.
+const FIRST_LEG: u8 = 1;
+
+const LAST_LEG: u8 = 64;
+
 // Whether there is such a leg.
 pub fn is_leg(leg: u8) -> bool
     ensures { IsTrue result ↔ Leg leg }
 {
-    (1..=64).contains(&leg)
+    (FIRST_LEG..=LAST_LEG).contains(&leg)
 }
 
 // A number that is a leg's.

@@ -6,9 +6,12 @@ mod queue;
 
 pub use queue::Waiting;
 
+// The most messages that can wait.
+const MOST_WAITING: usize = 128;
+
 // What each remote user has heard, and up to 128 messages that wait, the oldest first.
 #[derive(PartialEq, Eq, Debug, Drop)]
 pub struct Outbox {
     board: Board,
-    messages: ArrayVec<[u8; 5], 128>,
+    messages: ArrayVec<[u8; 5], MOST_WAITING>,
 }

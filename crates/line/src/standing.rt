@@ -28,11 +28,14 @@ fn one_more(sum: i8) -> i8
     sum.saturating_add(1)
 }
 
+// The least sum that there is.
+const LEAST_SUM: i8 = -127;
+
 // A sum with one party fewer: it stops at -127.
 fn one_fewer(sum: i8) -> i8
     ensures { result ≡ lowered sum }
 {
-    sum.saturating_sub(1).max(-127)
+    sum.saturating_sub(1).max(LEAST_SUM)
 }
 
 impl Standing {

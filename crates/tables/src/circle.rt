@@ -4,6 +4,11 @@ ghost use Rattle.std.specs.List.{find, range_with_len};
 ghost use Rattle.tables.specs.Circles.{next_id};
 ghost use Rattle.tables.specs.Closures.{Tells};
 
+// The ids that there are.
+const FIRST_ID: u8 = 0;
+
+const LAST_ID: u8 = 127;
+
 // The id that was given last; before the first, 127.
 #[derive(Clone, Copy, PartialEq, Eq, Debug)]
 pub struct Circle {
@@ -28,7 +33,7 @@ impl Circle {
     pub fn new() -> Circle
         ensures { result.last ≡ 127 }
     {
-        Circle { last: 127 }
+        Circle { last: LAST_ID }
     }
 
     // The id that comes next; the last again, where all are in use.
@@ -37,8 +42,8 @@ impl Circle {
         ensures { (is_used : ℕ → Bool) → Tells (F.post used) is_used → result ≡ next_id self.last is_used }
     {
         let Circle { last } = self;
-        first_unused(last.saturating_add(1), 127, &used)
-            .or_else(|| first_unused(0, last, &used))
+        first_unused(last.saturating_add(1), LAST_ID, &used)
+            .or_else(|| first_unused(FIRST_ID, last, &used))
             .unwrap_or(last)
     }
 }

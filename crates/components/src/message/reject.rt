@@ -5,7 +5,7 @@ ghost use Rattle.components.specs.Message.{Composed, message_octets};
 ghost use Rattle.components.specs.MessageTypes.{type_octet};
 ghost use Rattle.components.specs.Writing.{encoded, Sized};
 
-use super::{Message, MessageType};
+use super::{MOST_OCTETS, Message, MessageType};
 use crate::component::{Component, Problem};
 use crate::write::Refusal;
 
@@ -19,7 +19,7 @@ impl Message {
         ensures composed { Composed head.now (said component.now) result }
         ensures sized { Sized (said component.now) }
     {
-        let mut octets = [0; 23];
+        let mut octets = [0; MOST_OCTETS];
         // A longer head leaves no room for an element.
         let start = head.len().min(octets.len());
         let size = component.write(&mut octets[start..])?;

@@ -14,7 +14,7 @@ use super::Values;
 use crate::component::{Answer, Parameter};
 use crate::fault::{Cause, Fault};
 use crate::from_value::FromValue;
-use ber::read_value;
+use ber::{HEAD, SEQUENCE, read_value};
 
 impl<'a> Iterator for Values<'a> {
     type Item = Parameter<'a>;
@@ -64,7 +64,9 @@ fn sequence(value: &[u8]) -> Option<&[u8]>
     ensures { MatchOption result (is_tagged 0x30 value.now ≡ false) (λ s. (is_tagged 0x30 value.now ≡ true) × (s.now ≡ drop 2 value.now)) }
 {
     match value {
-        [0x30, length, contents @ ..] if 2 + usize::from(*length) == value.len() => Some(contents),
+        [SEQUENCE, length, contents @ ..] if HEAD + usize::from(*length) == value.len() => Some(
+            contents,
+        ),
         _ => None,
     }
 }
@@ -78,7 +80,7 @@ pub(crate) fn read_answer(value: Parameter<'_>) -> Result<Answer<'_>, Fault>
     let rest = sequence(value.octets).ok_or(wrong)?;
     let mut values = Values {
         rest,
-        place: value.place + 2,
+        place: value.place + HEAD,
     };
     let operation = values.read().map_err(|_| wrong)?;
     let parameter = values.next().ok_or(wrong)?;
