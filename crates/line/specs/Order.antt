@@ -1,5 +1,6 @@
 -- What is told on a line of any kind, notice after notice. Each kind of line says for itself what a telling does to it, and what a
--- collection does; these relations speak of every kind. Assumes nothing.
+-- collection does; these relations speak of every kind. A kind whose own relations always hold gains nothing by them; but code that is
+-- written for every kind can only keep them by making just these calls. Assumes nothing.
 use Rattle.std.specs.Prelude.{ℕ, List, [], ◌∷◌, ◌++◌, map}
 use Rattle.line.specs.declared.notice.Notice.{Notice}
 

@@ -15,7 +15,7 @@ pub enum OwnNotice {
 
 // What a remote user has heard: its latest own notice, and the parties added less those gone since it heard that its
 // conference was established. The sum stops at -127 and 127.
-#[derive(Clone, Copy, PartialEq, Eq, Debug, Default)]
+#[derive(Clone, Copy, PartialEq, Eq, Debug)]
 pub struct Standing {
     pub latest: Option<OwnNotice>,
     pub heard: i8,
@@ -43,7 +43,10 @@ impl Standing {
     pub fn new() -> Standing
         ensures { result ≡ fresh }
     {
-        Standing::default()
+        Standing {
+            latest: None,
+            heard: 0,
+        }
     }
 
     // The standing once a notice is heard. What a notice does to a standing is worked out here and nowhere else.
