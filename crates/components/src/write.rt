@@ -84,8 +84,7 @@ impl Contents {
         }
     }
 
-    // A problem's code, under the tag of the kind of component at fault; the tags are octets of the format, here and where
-    // they are read.
+    // A problem's code, under the tag of the kind of component at fault.
     fn put_problem(&mut self, problem: Problem) -> Result<(), Refusal>
         ensures { Appends (problem_octets problem) self.old self.new result }
     {
