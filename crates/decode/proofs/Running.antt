@@ -4,8 +4,7 @@ use Rattle.std.proofs.lemmas.Grind.{flat_map-append}
 use Rattle.std.specs.Io.KnownBytes.{Appends, IsAtEnd}
 use Rattle.lines.specs.Answering.{AnswersAll, AnswersSome, AreAnswered, IsDue, none, then}
 use Rattle.lines.specs.Cutting.{input_lines}
-use Rattle.decode.specs.Lines as decode
-use Rattle.decode.specs.Lines.{line_answer, line_answers}
+use Rattle.decode.specs.Lines.{BeginsAnswers, line_answer, line_answers}
 use Rattle.decode.specs.declared.decoder.Decoder.{Decoder}
 
 -- what lines are answered, whatever the decoder
@@ -31,7 +30,7 @@ all_of d d' (Some xs) (Some ys) output grown all =
     subst (Appends output grown) (due_is d d' all.read all.text all.due ∙ ap (λ l. line_answers (input_lines l)) read) all.appends
 
 -- a beginning of it
-some_of : (d : Decoder) (input left output grown : Option (List ℕ)) → AnswersSome Takes Ends d input left output grown → decode.AnswersSome input left output grown
+some_of : (d : Decoder) (input left output grown : Option (List ℕ)) → AnswersSome Takes Ends d input left output grown → BeginsAnswers input left output grown
 some_of d input left output grown some = elim some.due [
   | inl first ↦
       let behind = line_answers first.others in
@@ -62,6 +61,6 @@ pub at_end : {X Y : Type 0} (result : Result X Y) (d d' : Decoder) (input left o
 at_end (Ok x) d d' input left output grown all = all.at_end
 at_end (Err y) d d' input left output grown all = tt
 
-pub some_answered : {X Y : Type 0} (result : Result X Y) (d : Decoder) (input left output grown : Option (List ℕ)) → OnErr result (AnswersSome Takes Ends d input left output grown) → OnErr result (decode.AnswersSome input left output grown)
+pub some_answered : {X Y : Type 0} (result : Result X Y) (d : Decoder) (input left output grown : Option (List ℕ)) → OnErr result (AnswersSome Takes Ends d input left output grown) → OnErr result (BeginsAnswers input left output grown)
 some_answered (Ok x) d input left output grown some = tt
 some_answered (Err y) d input left output grown some = some_of d input left output grown some

@@ -22,7 +22,7 @@ line_answers lines = flat_map line_answer lines
 
 -- an input was read so far, and what was written is a beginning of the answers to the lines that ended in that; once the input is at
 -- its end, of those to all of its lines
-pub record AnswersSome (input left output grown : Option (List ℕ)) : Type 0 where
+pub record BeginsAnswers (input left output grown : Option (List ℕ)) : Type 0 where
   pub read : List ℕ
   pub text : List ℕ
   pub unwritten : List ℕ

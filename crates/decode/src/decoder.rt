@@ -3,7 +3,7 @@ ghost use Rattle.std.specs.Prelude.{◌≡◌, [], IfSome, OnErr, OnOk};
 ghost use Rattle.std.specs.Io.KnownBytes.{Appends, IsAtEnd};
 ghost use Rattle.lines.specs.Answering.{Says, SaysNothing};
 ghost use Rattle.lines.specs.Cutting.{input_lines};
-ghost use Rattle.decode.specs.Lines.{AnswersSome, line_answer, line_answers};
+ghost use Rattle.decode.specs.Lines.{BeginsAnswers, line_answer, line_answers};
 
 use crate::account::Account;
 use lines::{Answers, HexError, LineHandler, answer_lines, read_octets};
@@ -50,7 +50,7 @@ pub fn decode<R: Read, W: Write>(heap: Global, input: &mut R, output: &mut W) ->
     ensures all { OnOk result (IfSome (R.remaining input.old)
         (λ octets. Appends (W.contents output.old) (W.contents output.new) (line_answers (input_lines octets)))) }
     ensures end { OnOk result (IsAtEnd (R.remaining input.new)) }
-    ensures some { OnErr result (AnswersSome (R.remaining input.old) (R.remaining input.new)
+    ensures some { OnErr result (BeginsAnswers (R.remaining input.old) (R.remaining input.new)
         (W.contents output.old) (W.contents output.new)) }
 {
     let mut decoder = Decoder {

@@ -13,13 +13,17 @@ use std::io::{Read, Write};
 use tables::Level;
 
 // One octet more than a reel may have: input that is longer is no reel, and is not read further.
-const ENOUGH: usize = MOST_OCTETS + 1;
+fn enough() -> usize
+    ensures { result ≡ 65537 }
+{
+    MOST_OCTETS + 1
+}
 
 // Memory for what is read.
 fn new_memory(heap: Global) -> Result<Vec<u8>, AllocError>
     ensures { IfOk result (λ memory. length memory.items ≡ 65537) }
 {
-    Ok(vec![in heap; 0; ENOUGH]?)
+    Ok(vec![in heap; 0; enough()]?)
 }
 
 // What comes of octets, as it is printed.
