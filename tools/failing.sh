@@ -61,6 +61,17 @@ fails_and_runs_in_pieces() { # PROGRAM
     is_done "$1" 'in pieces' $?
 }
 
+# The first write to standard error fails, of what is remarked or told of a fault: one line says so in its place, and of standard
+# output a beginning is there.
+fails_to_remark() { # PROGRAM
+    "crates/$1/out/$1" <"$dir/in" >"$dir/due" 2>"$dir/remarked"
+    [ -s "$dir/remarked" ] || differs "$1: remarks on nothing"
+    run "$1" error 1
+    has_failed "$1" 'a write to standard error' $? "$1: ..*"
+    [ -s "$dir/failed" ] || differs "$1: no write to standard error fails"
+    ! cmp -s "$dir/remarked" "$dir/said" || differs "$1: remarks though that failed"
+}
+
 # A file so many times over: input of more than one block, of whose answers a beginning is written before the end is read.
 often() { # TIMES FILE
     i=0
@@ -82,6 +93,10 @@ fails_and_runs_in_pieces exchange
 fails_and_runs_in_pieces record
 cp samples/morning.reel "$dir/in"
 fails_and_runs_in_pieces replay
+printf 'level 10 4 subscribed active\nnonsense\ncalling 1\n' >"$dir/in"
+fails_to_remark record
+printf '\005\005\001\034\001\221\000\000\000\006\000\000\000\001CONF' >"$dir/in"
+fails_to_remark replay
 often 70 samples/trace.txt >"$dir/in"
 fails decode
 often 80 samples/morning.txt >"$dir/in"
