@@ -1,9 +1,10 @@
 -- The worked examples: one table, each row what the rules give and what that is. Assumes nothing.
 use Rattle.std.specs.Prelude.{◌≡◌, ℕ, true, List, [], ◌∷◌, ◌++◌, drop, ℤ, pos, negsuc, Some, None, Ok, Err, Option, Result}
 use Rattle.std.specs.List.{AllByRecursion}
+use Rattle.components.specs.declared.fault.Cause.{Cause}
+use Rattle.components.specs.declared.fault.Cause.TheVariants as cause
 use Rattle.components.specs.declared.fault.Fault.{Fault}
 use Rattle.components.specs.Component.{Said, result}
-use Rattle.components.specs.Faults.{cause_number}
 use Rattle.components.specs.Reading.{reading}
 use Rattle.facility.specs.declared.request.Request.TheVariants as request
 use Rattle.facility.specs.declared.request.RequestInvoke.{RequestInvoke}
@@ -31,7 +32,7 @@ pub data Outcome : Type 0 where
   made fits : Outcome
   refused : (number : ℕ) → Outcome
   drops : (id : ℤ) (party : ℕ) → Outcome
-  fault : (number place : ℕ) → Outcome
+  fault : (why : Cause) (place : ℕ) → Outcome
   message : (octets : List ℕ) (gone : ℕ) → Outcome
   party : (id : ℕ) → Outcome
   sum : (heard : ℤ) → Outcome
@@ -49,7 +50,7 @@ asked id _ = other
 
 abbrev pub element : Result RequestInvoke Fault → Outcome
 element (Ok r) = asked r.id r.request
-element (Err f) = fault (cause_number f.cause) f.place
+element (Err f) = fault f.cause f.place
 
 -- the message that answers a request
 abbrev pub answer : Answer → Outcome
@@ -86,17 +87,22 @@ dropped = begun 1 ++ (facility 1 (request.Drop 0) ∷ call 2 2)
 abbrev pub hold : List ℕ
 hold = 3 ∷ 1 ∷ []
 
--- the examples, at level Round, subscribed, and on a new reel
-abbrev pub table : Level → Open → List (Outcome × Outcome)
-table round new =
+-- the examples of levels and elements
+abbrev pub elements : List (Outcome × Outcome)
+elements =
     -- a level of at most 30 parties in 8 conferences is made; of 31 and 9 it is the 31 that is refused
     (level (no_level 30 8), made)
     ∷ (level (no_level 31 9), refused 1)
-    -- 2B, 43, is a drop of party 5; 2E, 46, is no request: cause 18 at the operation
+    -- 2B, 43, is a drop of party 5; 2E, 46, is no request: cause 18 at the operation, of an invoke with id 1
     ∷ (element (requesting (octets 0x2b)), drops (pos 1) 5)
-    ∷ (element (requesting (octets 0x2e)), fault 18 8)
+    ∷ (element (requesting (octets 0x2e)), fault (cause.Operation (pos 1)) 8)
+    ∷ []
+
+-- the examples of conferences and reels, at level Round, subscribed, and on a new reel
+abbrev pub table : Level → Open → List (Outcome × Outcome)
+table round new =
     -- a begin by SETUP gets CONNECT with ConferenceId 0
-    ∷ (
+    (
       answer (answer_after round [] (step.Settled (Setup 1 true) (asking (request.Begin (Some 10))))),
       message (0x07 ∷ 0x1c ∷ 0x10 ∷ 0x91 ∷ 0xa2 ∷ 0x0d ∷ 0x02 ∷ 0x01 ∷ 0x07 ∷ 0x30 ∷ 0x08 ∷ 0x02 ∷ 0x01 ∷ 0x28
           ∷ 0x30 ∷ 0x03 ∷ 0x02 ∷ 0x01 ∷ 0x00 ∷ []) 0,
@@ -124,7 +130,10 @@ table round new =
     ∷ []
 
 -- every row agrees
+abbrev pub Agree : List (Outcome × Outcome) → Type 0
+Agree rows = AllByRecursion (λ row. row.0 ≡ row.1) rows
+
 abbrev pub ExamplesHold : Type 0
 ExamplesHold =
-    (round : Level) (new : Open) → Offers 10 4 true true round → Holds [] new []
-    → AllByRecursion (λ row. row.0 ≡ row.1) (table round new)
+    Agree elements
+    × ((round : Level) (new : Open) → Offers 10 4 true true round → Holds [] new [] → Agree (table round new))

@@ -1,4 +1,6 @@
 // A line that keeps the messages to the remote users until the exchange collects them.
+ghost use Rattle.std.specs.Prelude.{◌≤◌, length};
+
 use crate::board::Board;
 use arrayvec::ArrayVec;
 
@@ -14,4 +16,5 @@ const MOST_WAITING: usize = 128;
 pub struct Outbox {
     board: Board,
     messages: ArrayVec<[u8; 5], MOST_WAITING>,
+    ghost few: { length messages.items ≤ 128 },
 }
