@@ -60,7 +60,7 @@ two n v w us a b o lie all v_is w_is o_is =
 
 -- which are the two INTEGERs and the value of an invoke or an error, and how they are written; `made` is the component
 -- that they make
-two_rewrites : (made : ℤ → ℤ → Option Part → Said) (n end : ℕ) (vs : List Part) (s : Said) → Lie n 5 vs → Octets (together vs)
+pub two_rewrites : (made : ℤ → ℤ → Option Part → Said) (n end : ℕ) (vs : List Part) (s : Said) → Lie n 5 vs → Octets (together vs)
     → and_then (two_integers end vs) (λ p. Ok (made p.0 p.1 p.2)) ≡ Ok s → (a b : ℤ) × (o : Option Part) × (s ≡ made a b o) × Two vs a b o
 two_rewrites made n end vs s lie all is =
     let p = then_parts (two_integers end vs) (λ p. Ok (made p.0 p.1 p.2)) s is in
