@@ -1,19 +1,45 @@
 // How octets, components and faults are printed, in the words of `specs/Wording`.
-ghost use Rattle.std.specs.Prelude.{Some};
-ghost use Rattle.std.specs.Fmt.{WritesOnOk};
+ghost use Rattle.std.specs.Prelude.{◌≡◌, ◌<◌, ◌≤◌, Some, length, true};
+ghost use Rattle.std.specs.Fmt.{digit_glyph};
+ghost use Rattle.std.specs.Str.{IsAscii};
 ghost use Rattle.components.specs.Component.{part, answered, said};
-ghost use Rattle.components.specs.Wording.{spaced, spaced_pair, pairs, layer_text, problem_text, parameter_text, answer_text, component_text, fault_text};
+ghost use Rattle.components.specs.Wording.{spaced, pairs, layer_text, problem_text, parameter_text, answer_text, component_text, fault_text};
 
 use crate::component::{Answer, Component, Parameter, Problem};
 use crate::fault::{Fault, Layer};
+use arrayvec::ArrayVec;
 use std::error::Error;
-use std::fmt;
+use std::{fmt, str};
 
-// A space, and the two hex digits of an octet.
-fn write_pair<W: fmt::Write>(f: &mut fmt::Formatter<W>, octet: u8) -> fmt::Result
-    ensures { WritesOnOk W.write_str_gives f.old result (spaced_pair octet) f.new }
+// The pairs of so many octets are written at once.
+const TOGETHER: usize = 32;
+
+// The upper-case hex digit of a value below 16.
+fn hex_digit(value: u8) -> u8
+    requires { value < 16 }
+    ensures value { result ≡ digit_glyph true value }
+    ensures ascii { result < 128 }
 {
-    write!(f, " {octet:02X}")
+    if value < 10 {
+        b'0' + value
+    } else {
+        b'A' + (value - 10)
+    }
+}
+
+// A space and the two hex digits, for each of at most 32 octets.
+fn spaced_pairs(octets: &[u8]) -> ArrayVec<u8, 96>
+    requires { length octets.now ≤ 32 }
+    ensures pairs { result.items ≡ pairs octets.now }
+    ensures ascii { IsAscii result.items }
+{
+    let mut text = ArrayVec::new();
+    for octet in octets {
+        text.push(b' ');
+        text.push(hex_digit(*octet / 16));
+        text.push(hex_digit(*octet % 16));
+    }
+    text
 }
 
 // Octets that print as pairs of hex digits, each behind a space.
@@ -24,8 +50,12 @@ impl fmt::Display for Pairs<'_> {
     ghost output = { λ p. Some (pairs p.0.now) };
 
     fn fmt<W: fmt::Write>(&self, f: &mut fmt::Formatter<W>) -> fmt::Result {
-        for octet in self.0 {
-            write_pair(f, *octet)?;
+        for octets in self.0.chunks(TOGETHER) {
+            let text = spaced_pairs(octets);
+            let Ok(text) = str::from_utf8(text.as_slice()) else {
+                unreachable!();
+            };
+            f.write_str(text)?;
         }
         Ok(())
     }

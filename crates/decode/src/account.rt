@@ -27,13 +27,13 @@ impl fmt::Display for Account<'_> {
     fn fmt<W: fmt::Write>(&self, f: &mut fmt::Formatter<W>) -> fmt::Result {
         match read_element(self.0) {
             Ok(component) => {
-                write!(f, "{component}")?;
+                component.fmt(f)?;
                 match component {
                     Component::Invoke { .. } => write_invoked(f, self.0),
                     _ => Ok(()),
                 }
             }
-            Err(fault) => write!(f, "{}", Replied(fault)),
+            Err(fault) => Replied(fault).fmt(f),
         }
     }
 }

@@ -25,7 +25,7 @@ fn answer(line: &[u8], octets: &mut Vec<u8>, answers: &mut Answers) -> Result<()
     match read_octets(line, octets) {
         Ok(()) if octets.is_empty() => Ok(()),
         Ok(()) => answers.append_line(Account(octets.as_slice())),
-        Err(HexError::NotOctets) => answers.append_line("not octets"),
+        Err(HexError::NotOctets) => answers.append_whole("not octets\n"),
         Err(HexError::OutOfMemory) => Err(AllocError),
     }
 }

@@ -36,7 +36,7 @@ impl fmt::Display for Replied {
         let fault = self.0;
         match fault.reply() {
             Some(message) => write!(f, "{fault} reply{}", Pairs(message.octets())),
-            None => write!(f, "{fault}"),
+            None => fault.fmt(f),
         }
     }
 }

@@ -1,9 +1,11 @@
 -- Where a line ends in a block, and how blocks go together. Assumes nothing.
-use Rattle.std.proofs.Common.{◌≡◌, ℕ, zero, suc, ◌+◌, ◌<◌, true, false, cond, eqb, List, [], ◌∷◌, ◌++◌, length, length-drop, get_or, take, drop, Some, None, sym, refl, ap, append_assoc, append-nil, add-one, arith}
+use Rattle.std.proofs.Common.{◌≡◌, ℕ, Bool, Option, inl, inr, zero, suc, ◌+◌, ◌<◌, true, false, cond, eqb, List, [], ◌∷◌, ◌++◌, length, length-drop, get_or, take, drop, Some, None, sym, refl, ap, append_assoc, append-nil, add-one, arith}
 use Rattle.std.specs.List.{position}
+use Rattle.std.proofs.lemmas.Bool.{cases_order}
 use Rattle.std.proofs.lemmas.Bool.Decides.{nat_tests}
 use Rattle.std.proofs.lemmas.List.Quantifiers.{position-Some}
 use Rattle.std.proofs.lemmas.List.Sums.{fails_before_first}
+use Rattle.memchr.specs.Find.{IsFirstByte}
 use Rattle.lines.specs.Cutting.{ended, going_on}
 
 -- none of the first `n` bytes is a line feed
@@ -30,6 +32,27 @@ uncut kept (b ∷ bs) u =
 -- where there is no line feed, none of the bytes is one
 unbroken : (bs : List ℕ) → position (λ b. eqb b 10) bs ≡ None → Unbroken bs (length bs)
 unbroken bs e k h = fails_before_first (λ b. eqb b 10) bs k 0 (grind (arith, nat_tests))
+
+-- the first byte that passes a test is at its position
+first_at : (p : ℕ → Bool) (bs : List ℕ) (r o : Option ℕ) → position p bs ≡ o → IsFirstByte p bs r → r ≡ o
+first_at p bs None None e first = refl
+first_at p bs None (Some i) e first =
+    let at = position-Some p bs i 0 e in
+    absurd (first i (omega arith) at.0 at.1)
+first_at p bs (Some k) None e first =
+    let high = first.0.high in
+    let fails : p (get_or bs k 0) ≡ false = fails_before_first p bs k 0 (grind (arith, nat_tests)) in
+    cc
+first_at p bs (Some k) (Some i) e first =
+    let at = position-Some p bs i 0 e in
+    elim (cases_order k i) [
+      | inl same ↦ ap Some same
+      | inr (inl below) ↦ let fails = at.2 k below in cc
+      | inr (inr above) ↦ absurd (first.0.before i (omega arith) above at.1)
+    ]
+
+pub first_is : (p : ℕ → Bool) (bs : List ℕ) (r : Option ℕ) → IsFirstByte p bs r → r ≡ position p bs
+first_is p bs r first = first_at p bs r (position p bs) refl first
 
 -- a line ends at the first line feed
 pub takes_line : (was bs : List ℕ) (n : ℕ) → position (λ b. eqb b 10) bs ≡ Some n → (rest : List ℕ) → rest ≡ drop (n + 1) bs → (line : List ℕ) → line ≡ was ++ take n bs → (length rest < length bs) × (ended was bs ≡ line ∷ ended [] rest) × (going_on was bs ≡ going_on [] rest)

@@ -38,8 +38,17 @@ impl Answers {
         ensures kept { OnErr result (text_of self.new ≡ text_of self.old) }
     {
         self.line.clear();
-        self.line.writeln(line)?;
+        self.line.write(line)?;
+        self.line.push_str("\n")?;
         self.text.push_str(self.line.as_str())
+    }
+
+    // Appends lines that are whole. Where memory is wanting, nothing is appended.
+    pub fn append_whole(&mut self, lines: &str) -> Result<(), AllocError>
+        ensures whole { OnOk result (text_of self.new ≡ text_of self.old ++ lines.now) }
+        ensures kept { OnErr result (text_of self.new ≡ text_of self.old) }
+    {
+        self.text.push_str(lines)
     }
 
     // Makes room for more, once these are written.

@@ -1,7 +1,8 @@
 // Cuts input into lines, block by block.
-ghost use Rattle.std.specs.Prelude.{◌≡◌, [], ◌==◌, position, IfOk};
+ghost use Rattle.std.specs.Prelude.{◌≡◌, [], ◌==◌, position, IfOk, IfSome, Some};
 ghost use Rattle.lines.specs.Cutting.{kept, Takes};
 
+use memchr::memchr;
 use std::alloc::{AllocError, Global};
 
 // The line that goes on behind the input so far.
@@ -11,10 +12,15 @@ pub struct LineCutter {
 }
 
 // The index of the first line feed.
+#[tactic(auto, using(crate::proofs::Cutting::first_is))]
 fn line_feed(bytes: &[u8]) -> Option<usize>
     ensures { result ≡ position (λ b. b == 10) bytes.now }
 {
-    bytes.iter().position(|byte| *byte == b'\n')
+    match bytes {
+        // A blank line is found without a search.
+        [b'\n', ..] => Some(0),
+        _ => memchr(b'\n', bytes),
+    }
 }
 
 impl LineCutter {
@@ -32,6 +38,18 @@ impl LineCutter {
         ensures { result.now ≡ kept self.now }
     {
         self.line.as_slice()
+    }
+
+    // The line that lies whole at the front of a block, and what stands behind it; none where a line goes on, or none ends there.
+    pub(crate) fn whole_line<'a>(&self, block: &'a [u8]) -> Option<(&'a [u8], &'a [u8])>
+        ensures nothing { IfSome result (λ _. kept self.now ≡ []) }
+        ensures cut { IfSome result (λ cut. Takes [] block.now cut.0.now (Some cut.1)) }
+    {
+        if !self.line.is_empty() {
+            return None;
+        }
+        let end = line_feed(block)?;
+        Some((&block[..end], &block[end + 1..]))
     }
 
     // Takes the bytes of a block up to the end of the line, and answers what stands behind it; none where the line goes on.

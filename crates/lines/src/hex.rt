@@ -26,11 +26,31 @@ pub fn is_white(byte: u8) -> bool
     matches!(byte, b' ' | b'\t' | b'\r')
 }
 
+// For each byte its value as a hex digit, in either case; 255 for what is none.
+const VALUES: [u8; 256] = [
+    255, 255, 255, 255, 255, 255, 255, 255, 255, 255, 255, 255, 255, 255, 255, 255, 255, 255, 255,
+    255, 255, 255, 255, 255, 255, 255, 255, 255, 255, 255, 255, 255, 255, 255, 255, 255, 255, 255,
+    255, 255, 255, 255, 255, 255, 255, 255, 255, 255, 0, 1, 2, 3, 4, 5, 6, 7, 8, 9, 255, 255, 255,
+    255, 255, 255, 255, 10, 11, 12, 13, 14, 15, 255, 255, 255, 255, 255, 255, 255, 255, 255, 255,
+    255, 255, 255, 255, 255, 255, 255, 255, 255, 255, 255, 255, 255, 255, 255, 255, 10, 11, 12, 13,
+    14, 15, 255, 255, 255, 255, 255, 255, 255, 255, 255, 255, 255, 255, 255, 255, 255, 255, 255,
+    255, 255, 255, 255, 255, 255, 255, 255, 255, 255, 255, 255, 255, 255, 255, 255, 255, 255, 255,
+    255, 255, 255, 255, 255, 255, 255, 255, 255, 255, 255, 255, 255, 255, 255, 255, 255, 255, 255,
+    255, 255, 255, 255, 255, 255, 255, 255, 255, 255, 255, 255, 255, 255, 255, 255, 255, 255, 255,
+    255, 255, 255, 255, 255, 255, 255, 255, 255, 255, 255, 255, 255, 255, 255, 255, 255, 255, 255,
+    255, 255, 255, 255, 255, 255, 255, 255, 255, 255, 255, 255, 255, 255, 255, 255, 255, 255, 255,
+    255, 255, 255, 255, 255, 255, 255, 255, 255, 255, 255, 255, 255, 255, 255, 255, 255, 255, 255,
+    255, 255, 255, 255, 255, 255, 255, 255, 255, 255, 255, 255, 255, 255, 255, 255, 255, 255, 255,
+    255, 255, 255,
+];
+
 // The value of a hex digit, in either case.
-fn digit(byte: u8) -> Option<u32>
+#[tactic(auto, using(crate::proofs::Digits::digit_there, crate::proofs::Digits::no_digit))]
+fn digit(byte: u8) -> Option<u8>
     ensures { result ≡ hex_value byte }
 {
-    char::from(byte).to_digit(16)
+    let value = VALUES[usize::from(byte)];
+    if value < 16 { Some(value) } else { None }
 }
 
 // The octet that two hex digits spell.
@@ -39,8 +59,7 @@ fn pair(high: u8, low: u8) -> Option<u8>
 {
     let high = digit(high)?;
     let low = digit(low)?;
-    // Two digits below 16 make a number below 256.
-    Some((16 * high + low) as u8)
+    Some(16 * high + low)
 }
 
 // Reads the line's octets into lent memory, in place of what it held. White space may stand around a pair, not inside it.

@@ -1,8 +1,8 @@
 // An input answered on an output, line by line.
-ghost use Rattle.std.specs.Prelude.{◌≡◌, ℕ, ◌<◌, ◌≤◌, List, [], ◌++◌, IfNone, IfOk, IfSome, OnErr, OnOk, length, take};
+ghost use Rattle.std.specs.Prelude.{◌≡◌, ℕ, ◌<◌, ◌≤◌, List, [], ◌++◌, IfNone, IfOk, IfSome, None, OnErr, OnOk, Some, length, take};
 ghost use Rattle.std.specs.Io.KnownBytes.{Appends, Consumes, IsAtEnd, Keeps};
 ghost use Rattle.lines.specs.Answering.{AnswersAll, AnswersSome, AreAnswered, text_of};
-ghost use Rattle.lines.specs.Cutting.{ended, going_on, kept};
+ghost use Rattle.lines.specs.Cutting.{ended, going_on, kept, Takes};
 
 use crate::answers::Answers;
 use crate::cutter::LineCutter;
@@ -13,6 +13,32 @@ use std::io;
 use std::io::{ErrorKind, Read, Write};
 
 const BLOCK: usize = 65536;
+
+// Answers the line that ends first in the block, and tells what stands behind it; none where the line goes on, which is kept. A
+// line that lies whole in the block is answered where it lies.
+fn answer_next<'a, H: LineHandler>(
+    handler: &mut H,
+    cutter: &mut LineCutter,
+    block: &'a [u8],
+    answers: &mut Answers,
+) -> Result<Option<&'a [u8]>, AllocError>
+    ensures next { IfOk result (λ next. IfSome next (λ rest. (line : List ℕ) × (text : List ℕ)
+        × Takes (kept cutter.old) block.now line (Some rest) × (kept cutter.new ≡ [])
+        × H.takes handler.old line text handler.new × (text_of answers.new ≡ text_of answers.old ++ text))) }
+    ensures last { IfOk result (λ next. IfNone next (Takes (kept cutter.old) block.now (kept cutter.new) None
+        × (handler.new ≡ handler.old) × (text_of answers.new ≡ text_of answers.old))) }
+{
+    if let Some((whole, rest)) = cutter.whole_line(block) {
+        handler.line(whole, answers)?;
+        return Ok(Some(rest));
+    }
+    let Some(rest) = cutter.take(block)? else {
+        return Ok(None);
+    };
+    handler.line(cutter.line(), answers)?;
+    cutter.clear();
+    Ok(Some(rest))
+}
 
 // Answers each line that ends in the block, and keeps the one that goes on.
 fn answer_block<H: LineHandler>(
@@ -27,9 +53,7 @@ fn answer_block<H: LineHandler>(
         × (text_of answers.new ≡ text_of answers.old ++ text)) }
 {
     let mut rest = block;
-    while let Some(next) = cutter.take(rest)? {
-        handler.line(cutter.line(), answers)?;
-        cutter.clear();
+    while let Some(next) = answer_next(handler, cutter, rest, answers)? {
         rest = next;
     }
     Ok(())

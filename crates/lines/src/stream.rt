@@ -67,7 +67,7 @@ pub fn write_whole<W: Write>(output: &mut W, octets: &[u8]) -> io::Result<()>
     let mut written = 0;
     while written < octets.len() {
         match write_some(output, &octets[written..])? {
-            0 => return Err(ErrorKind::WriteZero.into()),
+            0 => return Err(io::Error::new(ErrorKind::WriteZero, "failed to write whole buffer")),
             count => written += count,
         }
     }
