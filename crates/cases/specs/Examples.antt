@@ -1,4 +1,4 @@
--- The worked examples: one table, each row what the rules give and what that is. Assumes nothing.
+-- The worked examples: two tables, each row what the rules give and what that is. Assumes nothing.
 use Rattle.std.specs.Prelude.{◌≡◌, ℕ, true, List, [], ◌∷◌, ◌++◌, drop, ℤ, pos, negsuc, Some, None, Ok, Err, Option, Result}
 use Rattle.std.specs.List.{AllByRecursion}
 use Rattle.components.specs.declared.fault.Cause.{Cause}
