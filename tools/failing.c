@@ -1,6 +1,7 @@
 // Loaded below a program, it has one call fail: of the kind that FAIL names (malloc, read, a write to standard output, or error, a
-// write to standard error) the one that FAIL_AT counts. It says so on descriptor 9. Where FAIL is pieces none fails, but the first read and the first write are
-// interrupted, and all others move one octet. It needs glibc, and no headers.
+// write to standard error) the one that FAIL_AT counts; where FAIL is nothing, that write to standard output takes no octet. It says
+// so on descriptor 9. Where FAIL is pieces none fails, but the first read and the first write are interrupted, and all others move
+// one octet. It needs glibc, and no headers.
 typedef __SIZE_TYPE__ size_t;
 void *__libc_malloc(size_t size);
 void *__libc_calloc(size_t count, size_t size);
@@ -46,6 +47,7 @@ long read(int descriptor, void *octets, size_t count) {
 long write(int descriptor, const void *octets, size_t count) {
     static int calls;
     if (descriptor == 1 && is_it('w')) return error(IO_ERROR);
+    if (descriptor == 1 && is_it('n')) return 0;
     if (descriptor == 2 && is_it('e')) return error(IO_ERROR);
     if (kind() != 'p') return __write(descriptor, octets, count);
     return calls++ == 0 ? error(INTERRUPTED) : __write(descriptor, octets, count > 0);

@@ -52,6 +52,7 @@ fails() { # PROGRAM
     fails_in_turn "$1" malloc "$1: out of memory"
     fails_in_turn "$1" read "$1: ..*"
     fails_in_turn "$1" write "$1: ..*"
+    fails_in_turn "$1" nothing "$1: failed to write whole buffer"
 }
 
 # The same, and in pieces.

@@ -12,4 +12,4 @@ mod writing;
 
 pub use copying::copy_element;
 pub use examples::examples_hold;
-pub use telling::{first_message, worked_line};
+pub use telling::{first_message, waiting_on, worked_line};

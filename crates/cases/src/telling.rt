@@ -1,4 +1,5 @@
 // The line to the remote users: what waits after a telling, and tests of both kinds of line.
+ghost use Rattle.std.specs.Prelude.{◌≤◌};
 ghost use Rattle.cases.specs.Telling.{FirstWaits, OneClears};
 
 use line::{Line, Notice, Outbox};
@@ -11,6 +12,13 @@ pub fn first_message(leg: u8, notice: Notice) -> Option<[u8; 5]>
     outbox.tell(leg, notice).ok()?;
     let message = outbox.message(0)?;
     Some(*message.octets)
+}
+
+// How many messages wait on an outbox, whatever it was told.
+pub fn waiting_on(outbox: &Outbox) -> usize
+    ensures { result ≤ 128 }
+{
+    outbox.waiting()
 }
 
 // What is heard where one party clears. It does nothing: its contract is the example.
