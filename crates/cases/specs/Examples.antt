@@ -133,6 +133,7 @@ table round new =
 abbrev pub Agree : List (Outcome × Outcome) → Type 0
 Agree rows = AllByRecursion (λ row. row.0 ≡ row.1) rows
 
+-- the examples hold, those of elements without a level and a reel
 abbrev pub ExamplesHold : Type 0
 ExamplesHold =
     Agree elements

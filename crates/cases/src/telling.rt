@@ -1,5 +1,6 @@
 // The line to the remote users: what waits after a telling, and tests of both kinds of line.
-ghost use Rattle.std.specs.Prelude.{◌≤◌};
+ghost use Rattle.std.specs.Prelude.{◌≡◌, ◌≤◌, length};
+ghost use Rattle.line.specs.Outboxes.{waiting};
 ghost use Rattle.cases.specs.Telling.{FirstWaits, OneClears};
 
 use line::{Line, Notice, Outbox};
@@ -14,9 +15,10 @@ pub fn first_message(leg: u8, notice: Notice) -> Option<[u8; 5]>
     Some(*message.octets)
 }
 
-// How many messages wait on an outbox, whatever it was told.
+// How many messages wait on an outbox: at most 128, whatever it was told.
 pub fn waiting_on(outbox: &Outbox) -> usize
-    ensures { result ≤ 128 }
+    ensures waiting { result ≡ length (waiting outbox.now) }
+    ensures few { result ≤ 128 }
 {
     outbox.waiting()
 }
