@@ -1,9 +1,9 @@
 #!/bin/sh
 # Whether each program, as `rt ci` or `rt run` has built it, ends as it should where memory runs out, a read or a write fails, or a
-# write takes no octet: each of these calls is made to fail in turn, once. It has to end with status 1 and one line on standard error, having written a
-# beginning of what is due. And input and output that are interrupted, and go octet by octet, are to make no difference. Silent
-# where all this is so; prints what differs, and then ends with status 1. The calls fail by tools/failing.c, which the kit's compiler
-# makes a library that is loaded below the program.
+# write takes no octet: each of these calls is made to fail in turn, once. It has to end with status 1 and one line on standard
+# error, having written a beginning of what is due. And input and output that are interrupted, and go octet by octet, are to make no
+# difference. Silent where all this is so; prints what differs, and then ends with status 1. The calls fail by tools/failing.c, which
+# the kit's compiler makes a library that is loaded below the program.
 cd "$(dirname "$0")/.." || exit 1
 export LC_ALL=C
 dir=$(mktemp -d) || exit 1
